@@ -3,6 +3,7 @@ pub mod Appends
 pub mod Chunks
 pub mod Members
 pub mod Names
+pub mod Readings
 pub mod Spots
 pub mod Streams
 pub mod Volumes

@@ -3,6 +3,7 @@ pub mod Appends
 pub mod Chunks
 pub mod Names
 pub mod PlanText
+pub mod Reads
 pub mod Report
 pub mod Runs
 pub mod Streams
