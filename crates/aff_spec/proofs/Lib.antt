@@ -1,4 +1,5 @@
 pub mod Acquired
+pub mod Appending
 pub mod Appends
 pub mod Chunks
 pub mod Members
