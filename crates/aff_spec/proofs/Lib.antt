@@ -4,7 +4,9 @@ pub mod Appends
 pub mod Chunks
 pub mod Members
 pub mod Names
+pub mod Outcomes
 pub mod Readings
 pub mod Spots
+pub mod Storing
 pub mod Streams
 pub mod Volumes

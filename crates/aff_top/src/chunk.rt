@@ -10,6 +10,13 @@ use aff_outside::{Folder, FolderError};
 
 const CHUNK: usize = 32_768;
 
+/// How many chunks a length in bytes has.
+pub fn chunks_in_len(len: u64) -> u64
+    ensures { result ≡ chunk_count len }
+{
+    len.div_ceil(CHUNK as u64)
+}
+
 /// Makes all bytes 0.
 fn clear(out: &mut [u8])
     ensures { out.new ≡ replicate (length out.old) 0 }
@@ -56,7 +63,8 @@ pub fn store_chunks<F: Folder>(
     ensures cause { HasCause (F.folder_faults folder.old) (F.folder_faults folder.new) (IsErrOf result Fault.Folder) }
     ensures fault { IfErr result (λ e. (e ≡ Fault.Folder) ⊎ (e ≡ Fault.Memory)) }
 {
-    for place in 0..bytes.len().div_ceil(CHUNK) {
+    let count = chunks_in_len(bytes.len() as u64) as usize;
+    for place in 0..count {
         pad(bytes, place, chunk);
         if let Err(fault) = append(folder, bevvy, chunk) {
             return Err(fault);

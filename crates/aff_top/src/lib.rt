@@ -2,8 +2,10 @@
 #![tactic(auto)]
 
 mod chunk;
+mod extents;
 mod fault;
 mod line;
+mod segments;
 mod source;
 mod wanted;
 mod words;
