@@ -2,6 +2,7 @@ pub mod Acquired
 pub mod Appending
 pub mod Appends
 pub mod Chunks
+pub mod Histories
 pub mod Members
 pub mod Names
 pub mod Outcomes

@@ -5,6 +5,8 @@ mod chunk;
 mod extents;
 mod fault;
 mod line;
+mod plan;
+mod report;
 mod segments;
 mod source;
 mod wanted;
