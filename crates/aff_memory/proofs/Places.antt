@@ -33,7 +33,7 @@ found_at es name i d r h is past =
 
 put_at : (es : List (List ℕ × List ℕ)) (name : List ℕ) (i : ℕ) (d : List ℕ × List ℕ) (r : Ordering) (bytes : List ℕ) → i < length es → slice_cmp nat_cmp name (get_or es i d).0 ≡ r → IsPast es name i
     → put (slice_cmp nat_cmp) name bytes es
-      ≡ take i es ++ by_order r ((name, bytes) ∷ get_or es i d ∷ drop (i + 1) es) (((get_or es i d).0, bytes) ∷ drop (i + 1) es) (get_or es i d ∷ put (slice_cmp nat_cmp) name bytes (drop (i + 1) es))
+    ≡ take i es ++ by_order r ((name, bytes) ∷ get_or es i d ∷ drop (i + 1) es) (((get_or es i d).0, bytes) ∷ drop (i + 1) es) (get_or es i d ∷ put (slice_cmp nat_cmp) name bytes (drop (i + 1) es))
 put_at es name i d r bytes h is past =
     past.puts bytes ∙ ap (λ t. take i es ++ put (slice_cmp nat_cmp) name bytes t) (split es i d h)
     ∙ ap (λ r. take i es ++ by_order r ((name, bytes) ∷ get_or es i d ∷ drop (i + 1) es) (((get_or es i d).0, bytes) ∷ drop (i + 1) es) (get_or es i d ∷ put (slice_cmp nat_cmp) name bytes (drop (i + 1) es))) is
@@ -44,7 +44,7 @@ front es i d rest h = rw (add-one, take-suc es i d h) (sym (append_assoc (take i
 pub past_one : (es : List (List ℕ × List ℕ)) (name : List ℕ) (i : ℕ) (d : List ℕ × List ℕ) → i < length es → slice_cmp nat_cmp name (get_or es i d).0 ≡ Greater → IsPast es name i → IsPast es name (i + 1)
 past_one es name i d h is past = record {
   found = found_at es name i d Greater h is past;
-  puts = λ bytes. put_at es name i d Greater bytes h is past ∙ front es i d _ h
+  puts = λ bytes. put_at es name i d Greater bytes h is past ∙ front es i d _ h;
 }
 
 one_more : (b : Bool) (n m : ℕ) → m ≡ cond b n (n + 1) → m ≡ n + 1 → b ≡ false
@@ -60,7 +60,7 @@ gap : (es : List (List ℕ × List ℕ)) (name : List ℕ) (i : ℕ) → i ≤ l
 gap es name i h sorted puts = record {
   inside = h;
   missing = none _ (one_more _ _ _ (length-put (slice_cmp nat_cmp) nat_list_cmp_total name [] es (holds _ sorted)) (ap length (puts []) ∙ length-insert es i (name, []) h));
-  set = puts
+  set = puts;
 }
 
 pub gap_before : (es : List (List ℕ × List ℕ)) (name : List ℕ) (i : ℕ) (e : List ℕ × List ℕ) → i < length es → e ≡ get_or es i e → slice_cmp nat_cmp name e.0 ≡ Less → IsTrue (is_sorted (slice_cmp nat_cmp) es)
@@ -87,5 +87,5 @@ stands_at es name i e h at is past =
       key = key;
       set = λ bytes. put_at es name i e Equal bytes h (equal e) past
           ∙ ap (λ k. take i es ++ (k, bytes) ∷ drop (i + 1) es) (key e)
-          ∙ sym (set_parts es i (name, bytes) h)
+          ∙ sym (set_parts es i (name, bytes) h);
     }

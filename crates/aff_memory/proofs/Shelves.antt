@@ -29,7 +29,7 @@ put_inserts : (es : List (List ℕ × List ℕ)) (name bytes : List ℕ) → IsT
     → folder_of (map.put (slice_cmp nat_cmp) name bytes es) ≡ map.insert (folder_of es) name bytes
 put_inserts es name bytes h =
     map.same_entries_map _ _ (map.entries-from_sorted (slice_cmp nat_cmp) _ (holds _ (sorted_put es name bytes h))
-        ∙ sym (map.entries-insert nat_list_cmp_total (folder_of es) name bytes ∙ ap (map.put (slice_cmp nat_cmp) name bytes) (map.entries-from_sorted (slice_cmp nat_cmp) es (holds _ h))))
+    ∙ sym (map.entries-insert nat_list_cmp_total (folder_of es) name bytes ∙ ap (map.put (slice_cmp nat_cmp) name bytes) (map.entries-from_sorted (slice_cmp nat_cmp) es (holds _ h))))
 
 -- entries whose segment has these bytes more are the folder with these bytes appended
 pub put_appends : (es : List (List ℕ × List ℕ)) (name old bytes : List ℕ) → IsTrue (map.is_sorted (slice_cmp nat_cmp) es) → unwrap_or (map.find (slice_cmp nat_cmp) name es) [] ≡ old

@@ -10,6 +10,8 @@ mod calls;
 mod fixed;
 mod folder;
 mod shelf;
+#[cfg(test)]
+mod tests;
 mod text;
 
 pub use fixed::FixedDevice;
