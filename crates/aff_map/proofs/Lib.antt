@@ -1,0 +1,4 @@
+pub mod Lookup
+pub mod Below
+pub mod Adding
+pub mod Sectors
