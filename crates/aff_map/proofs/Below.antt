@@ -1,15 +1,14 @@
 -- The greatest runs below a place, and what one more run makes of them.
-use Rattle.std.proofs.Common.{◌≡◌, ℕ, suc, ◌+◌, ◌-◌, ◌<◌, ◌≤◌, List, [], ◌∷◌, ◌++◌, length, get_or, refl, sym, ap, ◌∙◌, subst, arith, inl, inr, length-append}
-use Rattle.std.specs.Prelude.{Option, Some, None, AllPairs}
-use Rattle.std.specs.List.{All, AllAdjacentBelow}
+use Rattle.std.proofs.Common.{◌≡◌, ℕ, ◌+◌, ◌-◌, ◌<◌, ◌≤◌, List, [], ◌∷◌, ◌++◌, length, get_or, refl, sym, ap, ◌∙◌, subst, arith, inl, inr}
+use Rattle.std.specs.Prelude.{Option, Some, None}
+use Rattle.std.specs.List.{AllAdjacentBelow}
 use Rattle.std.proofs.lemmas.Bool.{cases_lt}
 use Rattle.std.proofs.lemmas.List.{get_or_append_left, get_or_push, length_push}
 use Rattle.std.proofs.lemmas.List.Elements.{All-nil, All-push, All-weaker}
 use Rattle.std.proofs.lemmas.List.Quantifiers.{all_pairs_push}
-use Rattle.std.proofs.lemmas.List.Sorted.{all_adjacent_more}
 use Rattle.aff_fields.specs.declared.entry.Entry.{Entry}
-use Rattle.aff_spec.specs.Runs.{Spot, AreGreatestRuns, AreJoined, lookup, spot_in}
-use Rattle.aff_map.specs.Building.{Agree, AreRunsBelow, IsBefore}
+use Rattle.aff_spec.specs.Runs.{Spot, AreGreatestRuns, AreJoined, spot_in}
+use Rattle.aff_map.specs.Building.{AreRunsBelow, IsBefore}
 use Rattle.aff_map.proofs.Lookup.{lookup-past, lookup-push_before, lookup-push_within}
 
 -- an empty map
@@ -19,7 +18,7 @@ AreRunsBelow-nil spot n none = record {
   ends = All-nil (λ e. e.at + e.len ≤ n);
   some = All-nil (λ e. 0 < e.len);
   sorted = λ i j d h below. absurd (omega arith);
-  greatest = λ k d below. absurd (omega arith)
+  greatest = λ k d below. absurd (omega arith);
 }
 
 -- a gap behind the runs
@@ -32,7 +31,7 @@ AreRunsBelow-gap spot n m entries runs h none = record {
   ends = All-weaker (λ e. e.at + e.len ≤ n) (λ e. e.at + e.len ≤ m) (λ e end. omega arith) entries runs.ends;
   some = runs.some;
   sorted = runs.sorted;
-  greatest = runs.greatest
+  greatest = runs.greatest;
 }
 
 -- one more entry, which is not joined to the last one
@@ -66,7 +65,7 @@ AreRunsBelow-push spot entries run runs some here split = record {
   ends = All-push (λ e. e.at + e.len ≤ run.at + run.len) entries run (All-weaker (λ e. e.at + e.len ≤ run.at) (λ e. e.at + e.len ≤ run.at + run.len) (λ e end. omega arith) entries runs.ends) (omega arith);
   some = All-push (λ e. 0 < e.len) entries run runs.some some;
   sorted = all_pairs_push IsBefore entries run runs.sorted runs.ends;
-  greatest = split_push entries run runs.greatest split
+  greatest = split_push entries run runs.greatest split;
 }
 
 -- the runs without the last entry
@@ -81,7 +80,7 @@ AreRunsBelow-pop spot n init last runs =
       ends = λ k d below. subst (λ (e : Entry). e.at + e.len ≤ last.at) (at k d below) (subst (λ (f : Entry). (get_or (init ++ last ∷ []) k d).at + (get_or (init ++ last ∷ []) k d).len ≤ f.at) (at_last d) (runs.sorted k (length init) d below (omega arith)));
       some = λ k d below. subst (λ (e : Entry). 0 < e.len) (at k d below) (runs.some k d (omega arith));
       sorted = λ i j d h below. subst (λ (e : Entry). e.at + e.len ≤ (get_or init j d).at) (at i d (omega arith)) (subst (λ (f : Entry). (get_or (init ++ last ∷ []) i d).at + (get_or (init ++ last ∷ []) i d).len ≤ f.at) (at j d below) (runs.sorted i j d h (omega arith)));
-      greatest = λ k d below joined. runs.greatest k d (omega arith) (subst (λ e. AreJoined e (get_or (init ++ last ∷ []) (k + 1) d)) (sym (at k d (omega arith))) (subst (λ f. AreJoined (get_or init k d) f) (sym (at (k + 1) d below)) joined))
+      greatest = λ k d below joined. runs.greatest k d (omega arith) (subst (λ e. AreJoined e (get_or (init ++ last ∷ []) (k + 1) d)) (sym (at k d (omega arith))) (subst (λ f. AreJoined (get_or init k d) f) (sym (at (k + 1) d below)) joined));
     }
 
 -- no entry of the rest is joined to the last one
@@ -113,8 +112,8 @@ AreRunsBelow-join spot init last run runs joined some here =
           (λ j. Some (target j, same j)) ∙ here i late (omega arith)
     ] in
     subst (λ n. AreRunsBelow spot n (init ++ longer last run.len ∷ [])) end
-      (AreRunsBelow-push spot init (longer last run.len) before (omega arith) spots
-        (λ d h linked. split_last spot run.at init last runs d h (record { image = linked.image; target = linked.target; place = linked.place })))
+    (AreRunsBelow-push spot init (longer last run.len) before (omega arith) spots
+    (λ d h linked. split_last spot run.at init last runs d h (record { image = linked.image; target = linked.target; place = linked.place })))
 
 -- what a map has that ends nowhere
 pub AreGreatestRuns-from_below : (spot : ℕ → Option Spot) (entries : List Entry) → ((n : ℕ) → (m : ℕ) × (n ≤ m) × AreRunsBelow spot m entries) → AreGreatestRuns spot entries
@@ -122,5 +121,5 @@ AreGreatestRuns-from_below spot entries runs = record {
   spots = λ i. let r = runs (i + 1) in r.2.spots i (omega (arith, r.1));
   some = (runs 0).2.some;
   sorted = λ k d below. (runs 0).2.sorted k (k + 1) d (omega arith) below;
-  greatest = λ k d below. (runs 0).2.greatest k d below
+  greatest = λ k d below. (runs 0).2.greatest k d below;
 }

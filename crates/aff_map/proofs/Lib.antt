@@ -2,3 +2,5 @@ pub mod Lookup
 pub mod Below
 pub mod Adding
 pub mod Sectors
+pub mod InOrder
+pub mod Spots

@@ -1,12 +1,12 @@
 -- Lookup in a list of entries and one more.
 use Rattle.std.proofs.Common.{◌≡◌, ℕ, ◌+◌, ◌<◌, ◌≤◌, Bool, true, false, cond, List, [], ◌∷◌, ◌++◌, get_or, refl, ap, ◌∙◌, arith}
-use Rattle.std.specs.Prelude.{Option, Some, None, find}
+use Rattle.std.specs.Prelude.{Some, None, find}
 use Rattle.std.specs.Option.{option_map}
 use Rattle.std.specs.List.{All}
 use Rattle.std.proofs.lemmas.Bool.Decides.{nat_tests}
 use Rattle.std.proofs.lemmas.List.Elements.{All-head, All-tail}
 use Rattle.aff_fields.specs.declared.entry.Entry.{Entry}
-use Rattle.aff_spec.specs.Runs.{Spot, covers, lookup, spot_in}
+use Rattle.aff_spec.specs.Runs.{covers, lookup, spot_in}
 
 find-push_miss : {X : Type 0} (p : X → Bool) (xs : List X) (y : X) → p y ≡ false → find p (xs ++ y ∷ []) ≡ find p xs
 find-push_miss p [] y fails = ap (λ b. cond b (Some y) None) fails

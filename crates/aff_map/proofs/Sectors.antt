@@ -1,7 +1,7 @@
 -- Unreadable sectors, and the spots of an extent's bytes by them.
-use Rattle.std.proofs.Common.{◌≡◌, ℕ, ◌+◌, ◌-◌, ◌*◌, ◌/◌, ◌%◌, ◌<◌, ◌≤◌, ◌==◌, Bool, true, false, cond, List, [], ◌∷◌, length, get_or, refl, sym, ap, ◌∙◌, subst, arith, inl, inr, Result, Ok, Err, eq-eqb}
-use Rattle.std.specs.Prelude.{Option, Some, None, slice_get}
-use Rattle.std.specs.List.{All, Contains, list_any}
+use Rattle.std.proofs.Common.{◌≡◌, ℕ, ◌+◌, ◌-◌, ◌*◌, ◌/◌, ◌%◌, ◌<◌, ◌≤◌, ◌==◌, Bool, true, false, cond, List, length, get_or, refl, sym, ap, ◌∙◌, subst, arith, inl, inr, Result, Ok, Err, eq-eqb}
+use Rattle.std.specs.Prelude.{Some, slice_get}
+use Rattle.std.specs.List.{Contains, list_any}
 use Rattle.std.specs.List.Sorted.{IsBinarySearchResult, IsStrictlyIncreasing}
 use Rattle.std.specs.Ordering.{nat_cmp}
 use Rattle.std.specs.Result.{is_ok}
@@ -18,8 +18,8 @@ use Rattle.aff_model.specs.declared.publication.Place.{Place}
 use Rattle.aff_model.specs.declared.publication.Place.TheVariants.{Nothing}
 use Rattle.aff_model.specs.Cells.{sector_in}
 use Rattle.aff_fields.specs.declared.entry.Entry.{Entry}
-use Rattle.aff_spec.specs.Runs.{Spot, place_spot, spot_in}
-use Rattle.aff_map.specs.Building.{Adds, Agree, extent_spot, sector_spot}
+use Rattle.aff_spec.specs.Runs.{place_spot, spot_in}
+use Rattle.aff_map.specs.Building.{Adds, extent_spot, sector_spot}
 use Rattle.aff_map.proofs.Adding.{Adds-bounds, Adds-same}
 
 never_falls : (bad : List ℕ) → IsStrictlyIncreasing bad → (i j : ℕ) → i ≤ j → j < length bad → get_or bad i 0 ≤ get_or bad j 0
@@ -39,8 +39,8 @@ is_ok-search bad s (Ok i) found rising =
 is_ok-search bad s (Err i) found rising =
     let at = searched bad s (Err i) found (never_falls bad rising) in
     sym (list_any_none (λ t. t == s) bad (λ k d below.
-      subst (λ t. (t == s) ≡ false) (get_or_default bad k 0 d below)
-        (elim (cases_lt k i) [ inl low ↦ differs (get_or bad k 0) s (at.1 k low) | inr high ↦ differs_above (get_or bad k 0) s (at.2 k high below) ])))
+    subst (λ t. (t == s) ≡ false) (get_or_default bad k 0 d below)
+    (elim (cases_lt k i) [ inl low ↦ differs (get_or bad k 0) s (at.1 k low) | inr high ↦ differs_above (get_or bad k 0) s (at.2 k high below) ])))
 
 -- no number of a range is in the list
 pub IsClear : List ℕ → ℕ → ℕ → Type 0
@@ -96,11 +96,11 @@ pub Adds-clear : (e : Extent) (bad : List ℕ) (place : Place) (first last : ℕ
     → Adds (e.at + 512 * first) (e.at + 512 * last) (sector_spot e bad (Some place)) old new
 Adds-clear e bad place first last run old new whole at end spots clear adds =
     Adds-bounds _ _ _ _ (sector_spot e bad (Some place)) old new at end
-      (Adds-same run.at (run.at + run.len) (λ i. Some (spot_in i run)) (sector_spot e bad (Some place)) old new
-        (λ i low high.
-          let s = sector_within e first last i whole (omega (arith, low, at)) (omega (arith, high, end)) in
-          sym (ap (λ b. cond b (Some (2, i)) (place_spot (Some place) e i)) (list_any_clear bad (sector_in e i) (clear (sector_in e i) s.0 s.1)) ∙ spots i low high))
-        adds)
+    (Adds-same run.at (run.at + run.len) (λ i. Some (spot_in i run)) (sector_spot e bad (Some place)) old new
+    (λ i low high.
+    let s = sector_within e first last i whole (omega (arith, low, at)) (omega (arith, high, end)) in
+    sym (ap (λ b. cond b (Some (2, i)) (place_spot (Some place) e i)) (list_any_clear bad (sector_in e i) (clear (sector_in e i) s.0 s.1)) ∙ spots i low high))
+    adds)
 
 choice : (b : Bool) (e : Extent) (place : Place) (i : ℕ) → place_spot (Some (cond b Nothing place)) e i ≡ cond b (Some (2, i)) (place_spot (Some place) e i)
 choice true e place i = refl
@@ -115,15 +115,15 @@ pub Adds-sector : (e : Extent) (bad : List ℕ) (place kept : Place) (s : ℕ) (
     → Adds (e.at + 512 * s) (e.at + 512 * (s + 1)) (sector_spot e bad (Some place)) old new
 Adds-sector e bad place kept s run old new whole is at end spots adds =
     Adds-bounds _ _ _ _ (sector_spot e bad (Some place)) old new at end
-      (Adds-same run.at (run.at + run.len) (λ i. Some (spot_in i run)) (sector_spot e bad (Some place)) old new
-        (λ i low high.
-          let w = sector_within e s (s + 1) i whole (omega (arith, low, at)) (omega (arith, high, end)) in
-          let here : s ≡ sector_in e i = omega (arith, w.0, w.1) in
-          sym (spots i low high)
-          ∙ ap (λ p. place_spot (Some p) e i) is
-          ∙ choice (list_any (λ t. t == s) bad) e place i
-          ∙ ap (λ n. cond (list_any (λ t. t == n) bad) (Some (2, i)) (place_spot (Some place) e i)) here)
-        adds)
+    (Adds-same run.at (run.at + run.len) (λ i. Some (spot_in i run)) (sector_spot e bad (Some place)) old new
+    (λ i low high.
+    let w = sector_within e s (s + 1) i whole (omega (arith, low, at)) (omega (arith, high, end)) in
+    let here : s ≡ sector_in e i = omega (arith, w.0, w.1) in
+    sym (spots i low high)
+    ∙ ap (λ p. place_spot (Some p) e i) is
+    ∙ choice (list_any (λ t. t == s) bad) e place i
+    ∙ ap (λ n. cond (list_any (λ t. t == n) bad) (Some (2, i)) (place_spot (Some place) e i)) here)
+    adds)
 
 -- a chunk of an extent
 pub Adds-chunk : (e : Extent) (bad : List ℕ) (places : List Place) (d : Place) (j first last from to : ℕ) (old new : List Entry) → j < length places
@@ -132,9 +132,9 @@ pub Adds-chunk : (e : Extent) (bad : List ℕ) (places : List Place) (d : Place)
     → Adds from to (extent_spot e bad places) old new
 Adds-chunk e bad places d j first last from to old new below is short a b adds =
     Adds-bounds _ _ _ _ (extent_spot e bad places) old new a b
-      (Adds-same (e.at + 512 * first) (e.at + 512 * last) (sector_spot e bad (Some (get_or places j d))) (extent_spot e bad places) old new
-        (λ i low high.
-          let chunk : (i - e.at) / 32768 ≡ j = omega (arith, low, high, is, short) in
-          let there : slice_get places j ≡ Some (get_or places j d) = slice_get-get_or places j d below in
-          ap (λ p. sector_spot e bad p i) (sym there) ∙ ap (λ k. sector_spot e bad (slice_get places k) i) (sym chunk))
-        adds)
+    (Adds-same (e.at + 512 * first) (e.at + 512 * last) (sector_spot e bad (Some (get_or places j d))) (extent_spot e bad places) old new
+    (λ i low high.
+    let chunk : (i - e.at) / 32768 ≡ j = omega (arith, low, high, is, short) in
+    let there : slice_get places j ≡ Some (get_or places j d) = slice_get-get_or places j d below in
+    ap (λ p. sector_spot e bad p i) (sym there) ∙ ap (λ k. sector_spot e bad (slice_get places k) i) (sym chunk))
+    adds)

@@ -1,5 +1,5 @@
 -- Which pieces have a map.
-use Rattle.std.specs.Prelude.{◌≡◌, ℕ, ◌<◌, ◌^◌, List, length, map, nat_eq, All, MatchOption, slice_get}
+use Rattle.std.specs.Prelude.{◌≡◌, ◌<◌, ◌^◌, List, length, map, nat_eq, All, MatchOption, slice_get}
 use Rattle.std.specs.Arc.{arc_value}
 use Rattle.std.specs.declared.sync.Arc.{Arc}
 use Rattle.std.specs.List.{IsDistinct}
@@ -7,7 +7,7 @@ use Rattle.std.specs.List.Sorted.{IsStrictlyIncreasing}
 use Rattle.aff_model.specs.declared.extent.Extent.{Extent}
 use Rattle.aff_model.specs.declared.publication.Place.{Place}
 use Rattle.aff_model.specs.declared.publication.Place.TheVariants.{Zero, Chunk, Nothing}
-use Rattle.aff_model.specs.Plan.{IsPlan, chunk_count}
+use Rattle.aff_model.specs.Plan.{chunk_count}
 use Rattle.aff_model.specs.History.{Part, Published, publication_of}
 
 -- the publication that a shared piece is of
@@ -26,9 +26,7 @@ pub record IsMappable (e : Extent) (p : Published) : Type 0 where
   pub count : length p.places ≡ chunk_count e.len
   pub numbered : All IsNumbered p.places
 
--- a plan on a device whose places are numbers of 64 bits, and publications of distinct extents of it
-pub record AreMappable (size : ℕ) (extents : List Extent) (history : List Published) : Type 0 where
-  pub small : size < 2 ^ 64
-  pub plan : IsPlan size extents
+-- publications of distinct extents of a list
+pub record AreMappable (extents : List Extent) (history : List Published) : Type 0 where
   pub once : IsDistinct nat_eq (map (λ p. p.extent) history)
   pub published : All (λ p. MatchOption (slice_get extents p.extent) ⊥ (λ e. IsMappable e p)) history

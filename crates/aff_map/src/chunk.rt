@@ -95,7 +95,11 @@ fn kept(bad: &[u32], sector: u32, place: Place) -> Place
     ensures value { result ≡ (if list_any (λ s. s == sector) bad.now then Nothing else place) }
     ensures numbered { IsNumbered result }
 {
-    if is_bad(bad, sector) { Place::Nothing } else { place }
+    if is_bad(bad, sector) {
+        Place::Nothing
+    } else {
+        place
+    }
 }
 
 // The run of sectors of one chunk that are all kept alike.
@@ -117,7 +121,12 @@ fn run_of(extent: Extent, place: Place, first: u32, last: u32) -> Entry
         Place::Zero => (1, at),
         Place::Nothing => (2, at),
     };
-    Entry { at, len, target_at, target }
+    Entry {
+        at,
+        len,
+        target_at,
+        target,
+    }
 }
 
 // Whether a sector is unreadable.

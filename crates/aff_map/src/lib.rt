@@ -11,4 +11,5 @@ mod order;
 mod run;
 mod target;
 
+pub use entries::entries_of;
 pub use target::{Target, symbol};

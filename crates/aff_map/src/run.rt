@@ -39,7 +39,12 @@ fn goes_on(entries: &[Entry], run: &Entry) -> bool
 fn joins(last: &Entry, run: &Entry) -> bool
     ensures { IsTrue result ↔ AreJoined last.now run.now }
 {
-    let Entry { at, len, target_at, target } = *last;
+    let Entry {
+        at,
+        len,
+        target_at,
+        target,
+    } = *last;
     run.target == target
         && run.at.checked_sub(at) == Some(len)
         && run.target_at.checked_sub(target_at) == Some(len)

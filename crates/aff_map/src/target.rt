@@ -3,6 +3,7 @@ ghost use Rattle.std.specs.Prelude.{◌≡◌};
 ghost use Rattle.aff_map.specs.Symbol.{IsSymbolic, symbol_of};
 
 const UNKNOWN: &[u8; 7] = b"UNKNOWN";
+
 const UNREADABLE: &[u8; 14] = b"UNREADABLEDATA";
 
 /// What an entry or a gap leads to: the stream of stored chunks, zeros, bytes that were not acquired, or
