@@ -7,7 +7,7 @@ ghost use Rattle.aff_model.specs.Plan.{IsPlan, chunks_of};
 ghost use Rattle.aff_spec.specs.PlanText.{FitsExtent, plan_text, IsPlanText, IsRefusedText};
 ghost use Rattle.std.specs.Io.KnownBytes.{IsAtEnd};
 
-use crate::chunk::chunks_in_len;
+use crate::chunk::count_chunks;
 use crate::fault::Fault;
 use crate::line::{read_line, split_line};
 use crate::source::read_text;
@@ -37,19 +37,6 @@ fn read_extents(alloc: Global, text: &[u8]) -> Result<Option<Vec<Extent>>, Alloc
         rest = others;
     }
     Ok(Some(extents))
-}
-
-/// How many chunks some extents have together.
-fn count_chunks(extents: &[Extent]) -> u64
-    requires few { length extents.now ≤ 65536 }
-    requires short { All (λ e. e.len ≤ 16777216) extents.now }
-    ensures { result ≡ chunks_of extents.now }
-{
-    let mut count = 0;
-    for extent in extents {
-        count += chunks_in_len(extent.len);
-    }
-    count
 }
 
 /// What a refused list of extents is to a run.

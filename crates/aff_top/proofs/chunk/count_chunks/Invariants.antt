@@ -1,6 +1,6 @@
 use Rattle.std.proofs.Common.{◌≡◌, ◌≤◌, ◌*◌, take}
 use Rattle.aff_model.specs.Plan.{chunks_of}
-use Rattle.aff_top.proofs.plan.count_chunks.Given as goal
+use Rattle.aff_top.proofs.chunk.count_chunks.Given as goal
 
 abbrev pub invariant-loop-extent : goal.invariant-loop-extent
 invariant-loop-extent l = record {
