@@ -1,3 +1,4 @@
+pub mod Devices
 pub mod Digits
 pub mod FourWords
 pub mod Making

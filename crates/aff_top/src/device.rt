@@ -74,7 +74,8 @@ pub fn acquire_device<C: Case, F: Folder, S: Source>(
     requires empty { IsTrue F.tells → F.held folder.old ≡ empty }
     ensures done { IfOk result (λ report. Acquired uuid.now (device_size device.old) C.content (S.left source.old) F.tells (F.held folder.new) (string_bytes report)) }
     ensures whole { OnOk result (IsAtEnd (S.left source.new)) }
-    ensures sized { IsErrOf result Fault.Devices ↔ (¬ (IsDeviceSize (device_size device.old))) }
+    ensures sized { (IsErrOf result Fault.Devices × (¬ (IsDeviceSize (device_size device.old)))) ⊎ IsDeviceSize (device_size device.old) }
+    ensures refused { IsErrOf result Fault.Devices → ¬ (IsDeviceSize (device_size device.old)) }
     ensures text { IsErrOf result Fault.Text → IfSome (S.left source.old) (IsRefusedText (device_size device.old)) }
     ensures early { (IsErrOf result Fault.Text) ⊎ (IsErrOf result Fault.Source) ⊎ (IsErrOf result Fault.Devices) → folder.new ≡ folder.old }
     ensures unread { IsErrOf result Fault.Devices → source.new ≡ source.old }

@@ -10,9 +10,11 @@ mod line;
 mod pieces;
 mod plan;
 mod report;
+mod run;
 mod segments;
 mod source;
 mod wanted;
 mod words;
 
+pub use run::{End, outside, run_words};
 pub use wanted::Outside;
