@@ -5,3 +5,4 @@ pub mod Making
 pub mod Mappables
 pub mod Places
 pub mod PlanTexts
+pub mod States

@@ -264,6 +264,11 @@ pub fn run_words<C: Case, F: Folder, S: Source, K: Sink, G: Gate>(
     ensures cut { result.status ≡ 5 → (report : List ℕ) × IsCutShort (K.written sink.old) (K.written sink.new) report
         × All (λ d. Acquired (uuid_of (map (λ w. w.now) words.now)) (device_size d) C.content (S.left source.old) F.tells (F.held result.folder) report) devices.items }
 
+    // Whatever the status: the folder is as it was, or holds what the order of appends had reached, or is the whole volume.
+    ensures state { (result.folder ≡ folder)
+        ⊎ (All (λ d. IsInterrupted (uuid_of (map (λ w. w.now) words.now)) (device_size d) C.content (S.left source.old) F.tells (F.held result.folder)) devices.items
+          ⊎ ((report : List ℕ) × All (λ d. Acquired (uuid_of (map (λ w. w.now) words.now)) (device_size d) C.content (S.left source.old) F.tells (F.held result.folder) report) devices.items)) }
+
     // Each fault but the sink's has its line.
     ensures line { result.status ≢ 0 → result.status ≢ 5
         → IsLine (K.written sink.old) (K.written sink.new) (Rose (K.sink_faults sink.old) (K.sink_faults sink.new)) result.status }

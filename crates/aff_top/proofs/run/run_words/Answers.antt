@@ -1,4 +1,6 @@
 use Rattle.std.proofs.Common.{inl, inr}
+use Rattle.std.specs.String.{string_bytes}
+use Rattle.aff_top.proofs.States.{state_by}
 use Rattle.aff_top.proofs.run.run_words.Goals as goal
 
 pub returns-clause-devices : goal.returns-clause-devices
@@ -7,4 +9,13 @@ returns-clause-devices g c = λ ten.
     elim (c.tell-status.ensures.devices ten) [
       | inl refused ↦ inl ((told.refused refused).0, (told.refused refused).1, told.early (inr (inr (inr refused))))
       | inr reading ↦ inr ((λ k d below. (told.reading k d below).rose reading), told.late (inl reading))
+    ]
+
+pub returns-clause-state : goal.returns-clause-state
+returns-clause-state g c =
+    let told = c.acquire_words-outcome.ensures in
+    elim (state_by c.acquire_words-outcome.result _ _ _ told.early told.late told.memory told.done) [
+      | inl same ↦ inl same
+      | inr (inl part) ↦ inr (inl part)
+      | inr (inr whole) ↦ inr (inr (string_bytes whole.0, whole.1))
     ]
