@@ -75,6 +75,15 @@ pub fn card(alloc: Global, sectors: u8) -> Result<FixedDevice, AllocError> {
     Ok(FixedDevice::new(bytes, Vec::new(alloc)))
 }
 
+/// Whether the folder has no segment of this name.
+pub fn is_missing(alloc: Global, folder: &mut MemoryFolder, front: &str, name: &str) -> Result<bool, Fail> {
+    let name = format!(in alloc; "{front}/{name}")?;
+    match read_segment(alloc, folder, name.as_str()) {
+        Ok(found) => Ok(found.is_none()),
+        Err(_) => Err("the folder failed")?,
+    }
+}
+
 /// The bytes of a segment that is there.
 pub fn segment(alloc: Global, folder: &mut MemoryFolder, front: &str, name: &str) -> Result<Vec<u8>, Fail> {
     let name = format!(in alloc; "{front}/{name}")?;

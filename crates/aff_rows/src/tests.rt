@@ -1,4 +1,4 @@
-use crate::fixture::{Faults, IMAGE, NONE, STREAM, card, run, segment};
+use crate::fixture::{Faults, IMAGE, NONE, STREAM, card, is_missing, run, segment};
 use aff_memory::FixedDevice;
 use std::alloc::Global;
 use std::test::Fail;
@@ -37,7 +37,7 @@ fn several_extents(rt: HostRuntime) -> Result<(), Fail> {
     // No chunk, no index, a map of no bytes.
     let mut empty = run(alloc, b"", card(alloc, 1)?, NONE)?;
     assert_eq!(rt; empty.status, 0);
-    assert!(rt; segment(alloc, &mut empty.folder, STREAM, "00000000").is_err());
+    assert!(rt; is_missing(alloc, &mut empty.folder, STREAM, "00000000")?);
     assert_eq!(rt; segment(alloc, &mut empty.folder, IMAGE, "map")?.len(), 0);
     Ok(())
 }

@@ -32,9 +32,9 @@ mappable e c x few = record {
   rising = λ k below. absurd (omega (arith, below));
   count = length-map-range_with_len Chunk c (chunk_count x.len);
   numbered = λ k d below.
-    let low : k < chunk_count x.len = omega (arith, below, length-map-range_with_len Chunk c (chunk_count x.len)) in
-    let small : c + k < 2 ^ 48 = omega (arith, low, few) in
-    subst IsNumbered (sym (get_or-map-range_with_len Chunk c (chunk_count x.len) k (c + k) d low refl)) small;
+      let low : k < chunk_count x.len = omega (arith, below, length-map-range_with_len Chunk c (chunk_count x.len)) in
+      let small : c + k < 2 ^ 48 = omega (arith, low, few) in
+      subst IsNumbered (sym (get_or-map-range_with_len Chunk c (chunk_count x.len) k (c + k) d low refl)) small;
 }
 
 each : (done rest : List Extent) (c : ℕ) → c + chunks_of rest ≤ 1024
@@ -44,10 +44,10 @@ each done (x ∷ rest) c few =
     let split : chunks_of (x ∷ rest) ≡ chunk_count x.len + chunks_of rest = sum_by-cons (λ e. chunk_count e.len) x rest in
     let one : suc (length done) ≡ length (done ++ x ∷ []) = omega (arith, length-append done (x ∷ [])) in
     let here : MatchOption (slice_get (done ++ x ∷ rest) (length done)) ⊥ (λ e. IsMappable e (stored_publication (length done) c x)) =
-        subst (λ o. MatchOption o ⊥ (λ e. IsMappable e (stored_publication (length done) c x))) (sym (nth_after done x rest)) (mappable (length done) c x (omega (arith, few, split))) in
+    subst (λ o. MatchOption o ⊥ (λ e. IsMappable e (stored_publication (length done) c x))) (sym (nth_after done x rest)) (mappable (length done) c x (omega (arith, few, split))) in
     let others : AllByRecursion (λ p. MatchOption (slice_get (done ++ x ∷ rest) p.extent) ⊥ (λ e. IsMappable e p)) (stored_from (length (done ++ x ∷ [])) (c + chunk_count x.len) rest) =
-        subst (λ v. AllByRecursion (λ p. MatchOption (slice_get v p.extent) ⊥ (λ e. IsMappable e p)) (stored_from (length (done ++ x ∷ [])) (c + chunk_count x.len) rest)) (append_assoc done (x ∷ []) rest)
-          (each (done ++ x ∷ []) rest (c + chunk_count x.len) (omega (arith, few, split))) in
+    subst (λ v. AllByRecursion (λ p. MatchOption (slice_get v p.extent) ⊥ (λ e. IsMappable e p)) (stored_from (length (done ++ x ∷ [])) (c + chunk_count x.len) rest)) (append_assoc done (x ∷ []) rest)
+    (each (done ++ x ∷ []) rest (c + chunk_count x.len) (omega (arith, few, split))) in
     (here, subst (λ n. AllByRecursion (λ p. MatchOption (slice_get (done ++ x ∷ rest) p.extent) ⊥ (λ e. IsMappable e p)) (stored_from n (c + chunk_count x.len) rest)) (sym one) others)
 
 pub stored_mappable : (extents : List Extent) → chunks_of extents ≤ 1024 → AreMappable extents (stored_history extents)

@@ -34,9 +34,11 @@ pub body_no_feed : (e : Extent) → FitsExtent e → NoFeed (line_body e)
 unfolding line_body
 body_no_feed e fits =
     no_feed_append (codes "extent ") (decimal e.at ++ (codes " " ++ (decimal e.len ++ (codes " " ++ decimal e.priority)))) (refl, (refl, (refl, (refl, (refl, (refl, (refl, tt)))))))
-    (no_feed_append (decimal e.at) (codes " " ++ (decimal e.len ++ (codes " " ++ decimal e.priority))) (no_byte e.at 10 fits.at (omega arith))
-    (refl, no_feed_append (decimal e.len) (codes " " ++ decimal e.priority) (no_byte e.len 10 fits.len (omega arith))
-    (refl, no_byte e.priority 10 (omega (arith, fits.priority)) (omega arith))))
+    (no_feed_append (decimal e.at) (codes " " ++ (decimal e.len ++ (codes " " ++ decimal e.priority))) (no_byte e.at 10 fits.at (omega arith)) (
+      refl,
+      no_feed_append (decimal e.len) (codes " " ++ decimal e.priority) (no_byte e.len 10 fits.len (omega arith))
+          (refl, no_byte e.priority 10 (omega (arith, fits.priority)) (omega arith)),
+    ))
 
 not_there : (c y : ℕ) → c ≡ y → (y == c) ≡ false → ⊥
 not_there c y e h = let there : (y == c) ≡ true = grind (arith, e) in cc (there, h)
@@ -82,7 +84,7 @@ rest_of (d ∷ read) [] rest p q e = absurd (some_line d (plan_text read ++ rest
 rest_of (d ∷ read) (f ∷ extents) rest p q e =
     rest_of read extents rest p.1 q.1
     (same_lines (line_body f) (line_body d) (plan_text extents) (plan_text read ++ rest) (body_no_feed f q.0) (body_no_feed d p.0)
-      (sym (line_is f (plan_text extents)) ∙ e ∙ append_assoc (extent_line d) (plan_text read) rest ∙ line_is d (plan_text read ++ rest)))
+    (sym (line_is f (plan_text extents)) ∙ e ∙ append_assoc (extent_line d) (plan_text read) rest ∙ line_is d (plan_text read ++ rest)))
 
 -- a text is that of one list of extents
 pub same_plan : (xs ys : List Extent) → AllByRecursion FitsExtent xs → AllByRecursion FitsExtent ys → plan_text xs ≡ plan_text ys → xs ≡ ys
@@ -97,9 +99,9 @@ same_plan (x ∷ xs) (y ∷ ys) p q e =
 -- the extents of a plan have numbers that fit
 pub plan_fits : (size : ℕ) (extents : List Extent) → size < 2 ^ 64 → IsPlan size extents → AllByRecursion FitsExtent extents
 plan_fits size extents small plan = recursion_from_All FitsExtent extents (λ k d below. fits (get_or extents k d) (plan.each k d below))
- where
-  fits : (e : Extent) → IsExtent size e → FitsExtent e
-  fits e good = record { at = omega (arith, good.inside, small); len = omega (arith, good.inside, small); priority = omega (arith, good.priority) }
+  where
+    fits : (e : Extent) → IsExtent size e → FitsExtent e
+    fits e good = record { at = omega (arith, good.inside, small); len = omega (arith, good.inside, small); priority = omega (arith, good.priority) }
 
 -- what is left begins with a line
 pub record FirstLine (rest : List ℕ) : Type 0 where
@@ -110,10 +112,10 @@ pub record FirstLine (rest : List ℕ) : Type 0 where
 
 first_of : (rest : List ℕ) → Rest rest → 0 < length rest → FirstLine rest
 first_of rest r some = first r.extents r.fit r.is
- where
-  first : (extents : List Extent) → AllByRecursion FitsExtent extents → plan_text extents ≡ rest → FirstLine rest
-  first [] fit is = absurd (omega (arith, some, ap length is))
-  first (f ∷ extents) fit is = record { extent = f; others = plan_text extents; fits = fit.0; is = sym is ∙ line_is f (plan_text extents) }
+  where
+    first : (extents : List Extent) → AllByRecursion FitsExtent extents → plan_text extents ≡ rest → FirstLine rest
+    first [] fit is = absurd (omega (arith, some, ap length is))
+    first (f ∷ extents) fit is = record { extent = f; others = plan_text extents; fits = fit.0; is = sym is ∙ line_is f (plan_text extents) }
 
 pub next_line : (text : List ℕ) (read extents : List Extent) (rest : List ℕ) → AllByRecursion FitsExtent read → AllByRecursion FitsExtent extents
     → text ≡ plan_text read ++ rest → text ≡ plan_text extents → 0 < length rest → FirstLine rest

@@ -247,7 +247,7 @@ pub fn run_words<C: Case, F: Folder, S: Source, K: Sink, G: Gate>(
     ensures devices { result.status ≡ 10
         → (IsAcquire (map (λ w. w.now) words.now) × (¬ ((length devices.items ≡ 1) × All (λ d. IsDeviceSize (device_size d)) devices.items)) × (result.folder ≡ folder))
         ⊎ (((k : ℕ) (d : _) → k < length devices.items → Rose (device_faults (slice_index_or devices.items k d)) (device_faults (slice_index_or result.devices.items k d)))
-          × All (λ d. IsInterrupted (uuid_of (map (λ w. w.now) words.now)) (device_size d) C.content (S.left source.old) F.tells (F.held result.folder)) devices.items) }
+        × All (λ d. IsInterrupted (uuid_of (map (λ w. w.now) words.now)) (device_size d) C.content (S.left source.old) F.tells (F.held result.folder)) devices.items) }
     ensures sized { IsAcquire (map (λ w. w.now) words.now)
         → ¬ ((length devices.items ≡ 1) × All (λ d. IsDeviceSize (device_size d)) devices.items) → (result.status ≡ 10) ⊎ (result.status ≡ 7) }
 
@@ -267,7 +267,7 @@ pub fn run_words<C: Case, F: Folder, S: Source, K: Sink, G: Gate>(
     // Whatever the status: the folder is as it was, or holds what the order of appends had reached, or is the whole volume.
     ensures state { (result.folder ≡ folder)
         ⊎ (All (λ d. IsInterrupted (uuid_of (map (λ w. w.now) words.now)) (device_size d) C.content (S.left source.old) F.tells (F.held result.folder)) devices.items
-          ⊎ ((report : List ℕ) × All (λ d. Acquired (uuid_of (map (λ w. w.now) words.now)) (device_size d) C.content (S.left source.old) F.tells (F.held result.folder) report) devices.items)) }
+        ⊎ ((report : List ℕ) × All (λ d. Acquired (uuid_of (map (λ w. w.now) words.now)) (device_size d) C.content (S.left source.old) F.tells (F.held result.folder) report) devices.items)) }
 
     // Each fault but the sink's has its line.
     ensures line { result.status ≢ 0 → result.status ≢ 5

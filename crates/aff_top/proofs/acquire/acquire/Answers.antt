@@ -20,5 +20,5 @@ pub returns-in-Err-append_map-clause-part : goal.returns-in-Err-append_map-claus
 returns-in-Err-append_map-clause-part g c =
     let case = (goal.Device-dyn g c.args.device.now).device_content c.args.device.now.1 in
     inr (HasSomeMap-from case c.args.uuid.now c.args.plan.now.extents g.F.Folder.tells c.in-Ok.prepared.entries.items c.in-Ok.ensures.runs
-      (g.F.Folder.held c.args.folder.now) (g.F.Folder.held c.store_stream.new.folder) (g.F.Folder.held c.append_map.new.folder) c.in_default.ensures.ok
-      (λ t. subst (λ v. Reaches (g.F.Folder.held c.store_stream.new.folder) (map_appends c.args.uuid.now v) (g.F.Folder.held c.append_map.new.folder)) c.deref.ensures.value (c.in-Err-append_map.ensures.part t)))
+    (g.F.Folder.held c.args.folder.now) (g.F.Folder.held c.store_stream.new.folder) (g.F.Folder.held c.append_map.new.folder) c.in_default.ensures.ok
+    (λ t. subst (λ v. Reaches (g.F.Folder.held c.store_stream.new.folder) (map_appends c.args.uuid.now v) (g.F.Folder.held c.append_map.new.folder)) c.deref.ensures.value (c.in-Err-append_map.ensures.part t)))

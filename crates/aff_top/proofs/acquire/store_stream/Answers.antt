@@ -23,7 +23,7 @@ returns-in-Err-outcome-clause-part g c =
     let new = g.F.Folder.held c.acquire_extents-outcome.new.folder in
     HasSomeStream-from case c.args.uuid.now c.args.plan.now.extents g.F.Folder.tells c.extents-extents.ensures.plan.apart old new
     (subst (λ n. StoresSome case c.args.plan.now.extents g.F.Folder.tells n old new) (c.as_str.ensures.value ∙ c.in-Ok.ensures)
-      (subst (λ es. StoresSome case es g.F.Folder.tells c.as_str.result.now old new) c.extents-extents.ensures.extents c.in-Err-outcome.ensures.part))
+    (subst (λ es. StoresSome case es g.F.Folder.tells c.as_str.result.now old new) c.extents-extents.ensures.extents c.in-Err-outcome.ensures.part))
 
 pub returns-in-Ok-append_index-clause-ok : goal.returns-in-Ok-append_index-clause-ok
 returns-in-Ok-append_index-clause-ok g c =
@@ -34,7 +34,7 @@ returns-in-Ok-append_index-clause-ok g c =
     let count : c.count_chunks.result ≡ chunks_of c.args.plan.now.extents = c.count_chunks.ensures ∙ ap chunks_of c.extents-extents.ensures.extents in
     HasStream-from case c.args.uuid.now c.args.plan.now.extents g.F.Folder.tells c.extents-extents.ensures.plan.apart old mid new
     (subst (λ n. StoresReadings case c.args.plan.now.extents g.F.Folder.tells n old mid) (c.as_str.ensures.value ∙ c.in-Ok.ensures)
-      (subst (λ es. StoresReadings case es g.F.Folder.tells c.as_str.result.now old mid) c.extents-extents.ensures.extents c.in_default.ensures.ok))
+    (subst (λ es. StoresReadings case es g.F.Folder.tells c.as_str.result.now old mid) c.extents-extents.ensures.extents c.in_default.ensures.ok))
     (λ t. c.in-Ok-append_index.ensures.ok t ∙ ap (λ n. applied mid (index_appends c.args.uuid.now n)) count)
 
 pub returns-clause-part : goal.returns-clause-part
@@ -46,5 +46,5 @@ returns-clause-part g c =
     let count : c.count_chunks.result ≡ chunks_of c.args.plan.now.extents = c.count_chunks.ensures ∙ ap chunks_of c.extents-extents.ensures.extents in
     HasSomeStream-indexed case c.args.uuid.now c.args.plan.now.extents g.F.Folder.tells c.extents-extents.ensures.plan.apart old mid new
     (subst (λ n. StoresReadings case c.args.plan.now.extents g.F.Folder.tells n old mid) (c.as_str.ensures.value ∙ c.in-Ok.ensures)
-      (subst (λ es. StoresReadings case es g.F.Folder.tells c.as_str.result.now old mid) c.extents-extents.ensures.extents c.in_default.ensures.ok))
+    (subst (λ es. StoresReadings case es g.F.Folder.tells c.as_str.result.now old mid) c.extents-extents.ensures.extents c.in_default.ensures.ok))
     (λ t. subst (λ n. Reaches mid (index_appends c.args.uuid.now n) new) count (c.in-Err-append_index.ensures.part t))

@@ -8,8 +8,8 @@ use Rattle.aff_top.proofs.chunk.store_chunks.Goals as goal
 pub loop-place-preserved : goal.loop-place-preserved
 loop-place-preserved g c = record {
   held = λ t.
-    applied-one_more c.args.bevvy.now (chunk_at c.args.bytes.now) (g.F.Folder.held c.args.folder.now) (g.F.Folder.held c.loop-place.folder) (g.F.Folder.held c.append.new.folder) c.loop-place.place
-    (c.loop-place.invariant.held t) (c.in_default.ensures.ok t ∙ ap (λ v. applied (g.F.Folder.held c.loop-place.folder) ((c.args.bevvy.now, v) ∷ [])) c.pad.ensures);
+      applied-one_more c.args.bevvy.now (chunk_at c.args.bytes.now) (g.F.Folder.held c.args.folder.now) (g.F.Folder.held c.loop-place.folder) (g.F.Folder.held c.append.new.folder) c.loop-place.place
+      (c.loop-place.invariant.held t) (c.in_default.ensures.ok t ∙ ap (λ v. applied (g.F.Folder.held c.loop-place.folder) ((c.args.bevvy.now, v) ∷ [])) c.pad.ensures);
   later = omega (arith, c.loop-place.invariant.later, c.append.ensures.cause.later);
 }
 

@@ -26,5 +26,5 @@ returns-clause-memory g c = λ _.
     let content = (goal.Device-dyn g c.args.device.now).device_content c.args.device.now.1 in
     let extents = c.in-Ok.plan.extents in
     inr (interrupted g.C.Case.content content c.requires.told c.args.uuid.now extents g.F.Folder.tells c.args.size (g.S.Source.left c.args.source.now) (g.F.Folder.held c.acquire.new.folder)
-      c.in-Ok.ensures.plan.0 c.in-Ok.ensures.text
-      (IsUnfinished-empty content c.args.uuid.now extents g.F.Folder.tells (g.F.Folder.held c.args.folder.now) (g.F.Folder.held c.acquire.new.folder) c.requires.empty c.in-Err-acquire.ensures.part))
+    c.in-Ok.ensures.plan.0 c.in-Ok.ensures.text
+    (IsUnfinished-empty content c.args.uuid.now extents g.F.Folder.tells (g.F.Folder.held c.args.folder.now) (g.F.Folder.held c.acquire.new.folder) c.requires.empty c.in-Err-acquire.ensures.part))

@@ -14,7 +14,7 @@ loop-number-preserved c =
     let none : Extent = record { at = 0; len = 0; priority = 0 } in
     let below : c.loop-number.number < length c.extents-extent-items.result.now = omega arith in
     let one : published c.in_ok-piece.field-0 ≡ stored_publication k (chunks_of (take k xs)) (get_or xs k none) =
-        c.in_ok-piece.ensures (get_or xs k none) refl ∙ ap (λ n. stored_publication k n (get_or xs k none)) c.loop-number.invariant.first in
+    c.in_ok-piece.ensures (get_or xs k none) refl ∙ ap (λ n. stored_publication k n (get_or xs k none)) c.loop-number.invariant.first in
     record {
       pieces =
           ap (map published) c.in_ok-push.ensures.items

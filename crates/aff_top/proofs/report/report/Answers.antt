@@ -15,8 +15,8 @@ loop-number-preserved c =
     let below : c.loop-number.number < length c.extents-extents.result.now = omega arith in
     let plan : IsPlan c.args.plan.now.size c.extents-extents.result.now = subst (IsPlan c.args.plan.now.size) (sym c.extents-extents.ensures.extents) c.extents-extents.ensures.plan in
     let line : string_bytes c.add_line.new.text ≡ string_bytes c.loop-number.text ++ stored_line (c.loop-number.number + 1) c.loop-number.number (chunks_of (take c.loop-number.number c.extents-extents.result.now)) (chunk_count (get_or c.extents-extents.result.now c.loop-number.number none).len) =
-        c.in_ok-first.ensures.line
-        ∙ (λ i. string_bytes c.loop-number.text ++ stored_line (c.loop-number.number + 1) c.loop-number.number (c.loop-number.invariant.first i) (c.in_ok-first.ensures.count i)) in
+    c.in_ok-first.ensures.line
+    ∙ (λ i. string_bytes c.loop-number.text ++ stored_line (c.loop-number.number + 1) c.loop-number.number (c.loop-number.invariant.first i) (c.in_ok-first.ensures.count i)) in
     record {
       text =
           line
@@ -34,7 +34,7 @@ returns c =
     let own : length c.extents-extents.result.now ≡ length c.args.plan.now.extents = ap length c.extents-extents.ensures.extents in
     let published : length c.extents-extents.result.now ≡ length (stored_history c.args.plan.now.extents) = own ∙ count in
     let head : string_bytes c.in_ok-text.text ≡ header_text c.args.uuid.now c.args.plan.now.size (length c.args.plan.now.extents) (length (stored_history c.args.plan.now.extents)) =
-        c.in_ok-text.ensures ∙ (λ i. header_text c.args.uuid.now (c.size.ensures i) (own i) (published i)) in
+    c.in_ok-text.ensures ∙ (λ i. header_text c.args.uuid.now (c.size.ensures i) (own i) (published i)) in
     c.loop-number.invariant.text
     ∙ ap (λ v. string_bytes c.in_ok-text.text ++ publication_lines 1 (stored_from 0 0 v)) all
     ∙ ap (λ v. v ++ publication_lines 1 (stored_history c.args.plan.now.extents)) head

@@ -1,0 +1,54 @@
+-- Small inputs: extents, publications, and a volume of four bytes.
+use Rattle.std.specs.Prelude.{ℕ, ◌+◌, Bool, false, List, [], ◌∷◌, ◌++◌, codes}
+use Rattle.std.specs.List.{range_with_len}
+use Rattle.std.specs.Ordering.{nat_cmp}
+use Rattle.std.specs.Cmp.Lexicographic.{slice_cmp}
+use Rattle.std.specs.FinMap.{from_sorted}
+use Rattle.aff_model.specs.declared.extent.Extent.{Extent}
+use Rattle.aff_model.specs.declared.publication.Place.{Place}
+use Rattle.aff_model.specs.declared.publication.Place.TheVariants.{Zero, Chunk, Nothing}
+use Rattle.aff_model.specs.Content.{Content}
+use Rattle.aff_model.specs.Held.{Held}
+use Rattle.aff_model.specs.History.{Published}
+use Rattle.aff_fields.specs.declared.entry.Entry.{Entry}
+
+-- a content whose byte at each place is the place and one
+abbrev pub counting : Content
+counting = record { byte = λ i. i + 1; weak = λ s. false; bad = λ s. false; bad_is_weak = λ s h. h }
+
+-- an extent of priority 0
+abbrev pub extent : ℕ → ℕ → Extent
+extent at len = record { at = at; len = len; priority = 0 }
+
+-- a publication by claimant 0
+abbrev pub publication : ℕ → List ℕ → List Place → Published
+publication number bad places = record { extent = number; claimant = 0; swept = false; bad = bad; places = places }
+
+-- sectors 01, bad, 03 in one extent
+abbrev pub one_bad : List Published
+one_bad = publication 0 (1 ∷ []) (Chunk 0 ∷ []) ∷ []
+
+-- three chunks, the second of which could not be read
+abbrev pub bad_chunk : List Published
+bad_chunk = publication 0 (range_with_len 64 64) (Chunk 0 ∷ Nothing ∷ Chunk 1 ∷ []) ∷ []
+
+-- two chunks of zeros
+abbrev pub two_zeros : List Published
+two_zeros = publication 0 [] (Zero ∷ Zero ∷ []) ∷ []
+
+-- two extents of a chunk each, the later one published first
+abbrev pub urgent_first : List Published
+urgent_first = publication 1 [] (Chunk 0 ∷ []) ∷ publication 0 [] (Chunk 1 ∷ []) ∷ []
+
+abbrev pub uuid : List ℕ
+uuid = codes "11111111-2222-4333-8444-555555555555"
+
+-- a volume whose stream is one short chunk of four bytes, and whose map has one entry
+abbrev pub four_bytes : Held
+four_bytes = from_sorted {R = slice_cmp nat_cmp} (
+    (codes "aff4%3A%2F%2F11111111-2222-4333-8444-555555555555%2Fdata/00000000", 9 ∷ 8 ∷ 7 ∷ 6 ∷ [])
+    ∷ (codes "aff4%3A%2F%2F11111111-2222-4333-8444-555555555555%2Fdata/00000000.index", 0 ∷ 0 ∷ 0 ∷ 0 ∷ 0 ∷ 0 ∷ 0 ∷ 0 ∷ 4 ∷ 0 ∷ 0 ∷ 0 ∷ [])
+    ∷ (codes "aff4%3A%2F%2F11111111-2222-4333-8444-555555555555%2Fimage/idx", codes "aff4://11111111-2222-4333-8444-555555555555/data\nhttp://aff4.org/Schema#Zero\n")
+    ∷ (codes "aff4%3A%2F%2F11111111-2222-4333-8444-555555555555%2Fimage/map",
+        2 ∷ 0 ∷ 0 ∷ 0 ∷ 0 ∷ 0 ∷ 0 ∷ 0 ∷ 3 ∷ 0 ∷ 0 ∷ 0 ∷ 0 ∷ 0 ∷ 0 ∷ 0 ∷ 1 ∷ 0 ∷ 0 ∷ 0 ∷ 0 ∷ 0 ∷ 0 ∷ 0 ∷ 0 ∷ 0 ∷ 0 ∷ 0 ∷ [])
+    ∷ [])
