@@ -1,0 +1,10 @@
+pub mod Acquired
+pub mod Appending
+pub mod Appends
+pub mod Chunks
+pub mod Members
+pub mod Names
+pub mod Readings
+pub mod Spots
+pub mod Streams
+pub mod Volumes
