@@ -3,6 +3,8 @@ use Rattle.std.specs.Prelude.{◌≡◌, ℕ, ◌+◌, ◌/◌, ◌<◌, ◌≤�
 use Rattle.std.specs.List.Sorted.{IsStrictlyIncreasing}
 use Rattle.aff_core.specs.declared.event.Event.{Event}
 use Rattle.aff_core.specs.declared.event.Event.TheVariants.{Claim, Publish, Read, Raise, Finish}
+use Rattle.aff_core.specs.declared.event.CoreError.{CoreError}
+use Rattle.aff_core.specs.declared.event.CoreError.TheVariants.{Refused, Memory}
 use Rattle.aff_model.specs.declared.extent.Extent.{Extent}
 use Rattle.aff_model.specs.History.{Published}
 use Rattle.aff_model.specs.Legal.{IsComplete}
@@ -95,3 +97,8 @@ pub record IsFirstRefused (c : CoreState) (events : List Event) (place : ℕ) : 
   pub before : IsRun c (take place events) state
   pub there : slice_get events place ≡ Some event
   pub refused : HasNoStep state event
+
+-- what an error says of a list of events: the place of the first that is no step, and nothing for want of memory
+abbrev pub IsRefusal : CoreState → List Event → CoreError → Type 0
+IsRefusal c events (Refused place) = IsFirstRefused c events place
+IsRefusal c events Memory = Unit {0}

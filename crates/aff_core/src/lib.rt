@@ -8,4 +8,5 @@ mod runs;
 mod state;
 
 pub use event::{CoreError, Event, Refused};
+pub use machine::run;
 pub use state::State;
