@@ -62,15 +62,15 @@ refused-no_run c es n d r h =
 
 not_sooner : (c : CoreState) (es : List Event) (i j : ℕ) → IsFirstRefused c es i → IsFirstRefused c es j → j ≤ i
 not_sooner c es i j a b = elim (leb_tells j i) [
-      inl x ↦ x.1
-    | inr y ↦ absurd (
-        let inside = slice_get_within es j b.event b.there in
-        let n : length (take j es) ≡ j = length-take-le j es (omega arith) in
-        let at : get_or (take j es) i a.event ≡ a.event = get_or-take j es i a.event y.1 ∙ get_or_from_slice_get es i a.event a.event a.there in
-        let P : List Event → Type 0 = λ l. IsRun c l a.state in
-        let front : IsRun c (take i (take j es)) a.state = subst P (sym (take-take i j es (omega arith))) a.before in
-        refused-no_run c (take j es) i b.state (refused-at c (take j es) i a.event a.state (omega arith) at front a.refused) b.before)
-    ]
+  | inl x ↦ x.1
+  | inr y ↦ absurd (
+      let inside = slice_get_within es j b.event b.there in
+      let n : length (take j es) ≡ j = length-take-le j es (omega arith) in
+      let at : get_or (take j es) i a.event ≡ a.event = get_or-take j es i a.event y.1 ∙ get_or_from_slice_get es i a.event a.event a.there in
+      let P : List Event → Type 0 = λ l. IsRun c l a.state in
+      let front : IsRun c (take i (take j es)) a.state = subst P (sym (take-take i j es (omega arith))) a.before in
+      refused-no_run c (take j es) i b.state (refused-at c (take j es) i a.event a.state (omega arith) at front a.refused) b.before)
+]
 
 pub refused-unique : (c : CoreState) (es : List Event) (i j : ℕ) → IsFirstRefused c es i → IsFirstRefused c es j → i ≡ j
 refused-unique c es i j a b = let u = not_sooner c es i j a b in let v = not_sooner c es j i b a in omega arith

@@ -92,14 +92,14 @@ tracks-more-each out places e q t h b =
     let n = length_push out e in
     let inside = slice_get_within places e None h in
     elim (cases_eq q (length out)) [
-      inl same ↦
-        ap (slice_get (set places e (Some (length out)))) (get_or_push out e 0 q (sym same)) ∙ slice_get-set_same places e (Some (length out)) inside ∙ ap (λ k. Some (Some k)) (sym same)
-    | inr other ↦ (
-        let before : q < length out = omega arith in
-        let read : get_or (out ++ e ∷ []) q 0 ≡ get_or out q 0 = get_or_append_left out (e ∷ []) 0 q before in
-        let had : slice_get places (get_or out q 0) ≡ Some (Some q) = t.each q before in
-        let differ : get_or out q 0 ≢ e = λ s. (let wrong : ◌≡◌ {A = Option (Option ℕ)} (Some None) (Some (Some q)) = sym h ∙ ap (slice_get places) (sym s) ∙ had in cc) in
-        ap (slice_get (set places e (Some (length out)))) read ∙ slice_get-set_other places e (get_or out q 0) (Some (length out)) differ ∙ had)
+      | inl same ↦
+          ap (slice_get (set places e (Some (length out)))) (get_or_push out e 0 q (sym same)) ∙ slice_get-set_same places e (Some (length out)) inside ∙ ap (λ k. Some (Some k)) (sym same)
+      | inr other ↦ (
+          let before : q < length out = omega arith in
+          let read : get_or (out ++ e ∷ []) q 0 ≡ get_or out q 0 = get_or_append_left out (e ∷ []) 0 q before in
+          let had : slice_get places (get_or out q 0) ≡ Some (Some q) = t.each q before in
+          let differ : get_or out q 0 ≢ e = λ s. (let wrong : ◌≡◌ {A = Option (Option ℕ)} (Some None) (Some (Some q)) = sym h ∙ ap (slice_get places) (sym s) ∙ had in cc) in
+          ap (slice_get (set places e (Some (length out)))) read ∙ slice_get-set_other places e (get_or out q 0) (Some (length out)) differ ∙ had)
     ]
 
 tracks-more-found : (out : List ℕ) (places : List (Option ℕ)) (e k q : ℕ) → Tracks out places → slice_get places e ≡ Some None → slice_get (set places e (Some (length out))) k ≡ Some (Some q) → (q < length (out ++ e ∷ [])) × (get_or (out ++ e ∷ []) q 0 ≡ k)
@@ -107,14 +107,14 @@ tracks-more-found out places e k q t h g =
     let n = length_push out e in
     let inside = slice_get_within places e None h in
     elim (cases_eq k e) [
-      inl same ↦ (
-        let there : slice_get (set places e (Some (length out))) k ≡ Some (Some (length out)) = ap (slice_get (set places e (Some (length out)))) same ∙ slice_get-set_same places e (Some (length out)) inside in
-        let wrapped : ◌≡◌ {A = Option (Option ℕ)} (Some (Some q)) (Some (Some (length out))) = sym g ∙ there in
-        let last : q ≡ length out = same_Some q (length out) (same_Some (Some q) (Some (length out)) wrapped) in
-        (omega arith, get_or_push out e 0 q (sym last) ∙ sym same))
-    | inr other ↦ (
-        let f = t.found k q (sym (slice_get-set_other places e k (Some (length out)) other) ∙ g) in
-        (omega (arith, f.0), get_or_append_left out (e ∷ []) 0 q f.0 ∙ f.1))
+      | inl same ↦ (
+          let there : slice_get (set places e (Some (length out))) k ≡ Some (Some (length out)) = ap (slice_get (set places e (Some (length out)))) same ∙ slice_get-set_same places e (Some (length out)) inside in
+          let wrapped : ◌≡◌ {A = Option (Option ℕ)} (Some (Some q)) (Some (Some (length out))) = sym g ∙ there in
+          let last : q ≡ length out = same_Some q (length out) (same_Some (Some q) (Some (length out)) wrapped) in
+          (omega arith, get_or_push out e 0 q (sym last) ∙ sym same))
+      | inr other ↦ (
+          let f = t.found k q (sym (slice_get-set_other places e k (Some (length out)) other) ∙ g) in
+          (omega (arith, f.0), get_or_append_left out (e ∷ []) 0 q f.0 ∙ f.1))
     ]
 
 tracks-more : (out : List ℕ) (places : List (Option ℕ)) (e : ℕ) → Tracks out places → slice_get places e ≡ Some None → Tracks (out ++ e ∷ []) (set places e (Some (length out)))
@@ -122,12 +122,12 @@ tracks-more out places e t h = record {
   each = λ q b. tracks-more-each out places e q t h b;
   found = λ k q g. tracks-more-found out places e k q t h g;
   count =
-    let n = length_push out e in
-    let l = length-set places e (Some (length out)) in
-    let at : get_or places e nobody ≡ None = get_or_from_slice_get places e None nobody h in
-    let one : none_at (get_or places e nobody) ≡ none_at nobody = ap none_at at in
-    let s = sum_by-set none_at places e (Some (length out)) nobody (slice_get_within places e None h) in
-    omega (arith, n, l, one, s, t.count);
+      let n = length_push out e in
+      let l = length-set places e (Some (length out)) in
+      let at : get_or places e nobody ≡ None = get_or_from_slice_get places e None nobody h in
+      let one : none_at (get_or places e nobody) ≡ none_at nobody = ap none_at at in
+      let s = sum_by-set none_at places e (Some (length out)) nobody (slice_get_within places e None h) in
+      omega (arith, n, l, one, s, t.count);
 }
 
 pub kept-more : (plan : Planned) (claims places : List (Option ℕ)) (out : List ℕ) (room more e : ℕ) → IsKept plan claims out places room → slice_get places e ≡ Some None → room ≤ more → IsKept plan claims (out ++ e ∷ []) (set places e (Some (length out))) more
@@ -174,15 +174,16 @@ published-iff true out places e t h = (λ _. contains-from_placed out places e t
 published-iff false out places e t h = (λ w. absurd (false≢true w), λ c. absurd (h (placed-from_contains out places e t c)))
 
 pub complete-iff : (plan : Planned) (claims places : List (Option ℕ)) (out : List ℕ) (room : ℕ) (b : Bool) → IsKept plan claims out places room → b ≡ leb (length places) (length out) → (b ≡ true → (k : ℕ) → k < length plan.extents → Contains out k) × (((k : ℕ) → k < length plan.extents → Contains out k) → b ≡ true)
-complete-iff plan claims places out room b k is =
-    (λ e n inside.
-        let all = leb_tells (length places) (length out) in
-        let few : length places ≤ length out = grind (arith, nat_tests) in
-        tracks-complete out places k.tracks few n (omega (arith, k.places_count)),
-     λ all. elim (leb_tells (length places) (length out)) [
-         inl x ↦ is ∙ x.0
-       | inr y ↦ absurd (tracks-incomplete out places k.tracks y.1 (λ n inside. all n (omega (arith, k.places_count))))
-       ])
+complete-iff plan claims places out room b k is = (
+  λ e n inside.
+      let all = leb_tells (length places) (length out) in
+      let few : length places ≤ length out = grind (arith, nat_tests) in
+      tracks-complete out places k.tracks few n (omega (arith, k.places_count)),
+  λ all. elim (leb_tells (length places) (length out)) [
+    | inl x ↦ is ∙ x.0
+    | inr y ↦ absurd (tracks-incomplete out places k.tracks y.1 (λ n inside. all n (omega (arith, k.places_count))))
+  ],
+)
 
 -- what is known of the extent of a publication that may join the history: s and p are t and q as the code has them
 pub record IsNext (s : CoreState) (p : Published) (places : List (Option ℕ)) (room : ℕ) : Type 0 where

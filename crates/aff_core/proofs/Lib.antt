@@ -1,2 +1,4 @@
 pub mod EventLists
 pub mod Kept
+pub mod KindLists
+pub mod RunLists

@@ -5,13 +5,26 @@ use aff_model::Publication;
 #[derive(Debug, Drop)]
 pub enum Event {
     /// A pass takes an extent for itself.
-    Claim { claimant: u32, extent: u32 },
+    Claim {
+        claimant: u32,
+        extent: u32,
+    },
     /// A claimed extent joins the history.
-    Publish { publication: Publication },
+    Publish {
+        publication: Publication,
+    },
     /// A session reads a range, in bytes, after so many publications.
-    Read { session: u32, at: u64, len: u64, front: u64 },
+    Read {
+        session: u32,
+        at: u64,
+        len: u64,
+        front: u64,
+    },
     /// A session asks for an extent to be read soon.
-    Raise { session: u32, extent: u32 },
+    Raise {
+        session: u32,
+        extent: u32,
+    },
     /// All is published.
     Finish,
 }

@@ -19,10 +19,8 @@ pub fn run<'p>(
 
     // Want of memory aside, each run is taken and each first event that is no step is named.
     ensures taken { (s : CoreState) → IsRun (start plan.now passes sessions) events.items s → OnErr result (result ≡ Err CoreError.Memory) }
-    ensures named {
-        (place : ℕ) → IsFirstRefused (start plan.now passes sessions) events.items place
-            → (result ≡ Err (CoreError.Refused place)) ⊎ (result ≡ Err CoreError.Memory)
-    }
+    ensures named { (place : ℕ) → IsFirstRefused (start plan.now passes sessions) events.items place
+        → (result ≡ Err (CoreError.Refused place)) ⊎ (result ≡ Err CoreError.Memory) }
 {
     let Ok(mut state) = State::new(alloc, plan, passes, sessions) else {
         return Err(CoreError::Memory);

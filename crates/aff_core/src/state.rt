@@ -1,12 +1,15 @@
 //! A state of the core, and the events that change it.
-ghost use Rattle.std.specs.Prelude.{◌≡◌, ◌≢◌, ℕ, ◌+◌, ◌<◌, ◌≤◌, ◌↔◌, None, Some, IsTrue, IfOk, OnOk, OnErr, All, Contains, length, IsSomeAnd, slice_get, vec_capacity};
+ghost use Rattle.std.specs.Prelude.{◌≡◌, ◌≢◌, ℕ, ◌+◌, ◌<◌, ◌≤◌, ◌↔◌, None, Some, IsTrue, IfOk, OnOk, OnErr, All, Contains, length, IsSomeAnd, slice_get, vec_capacity, if◌then◌else◌};
 ghost use Rattle.aff_core.specs.declared.event.Event.{Event};
 ghost use Rattle.std.specs.Bool.{MatchBool};
-ghost use Rattle.aff_core.specs.Kept.{IsKept, IsPlaced};
+ghost use Rattle.aff_core.specs.Kept.{IsKept, IsPlaced, Tracks};
 ghost use Rattle.aff_core.specs.Kinds.{IsAnswer, kind_at};
 ghost use Rattle.aff_core.specs.Steps.{CoreState, HasNoStep, IsShaped, IsStep, MayClaim, MayFinish, MayPublish, MayRaise, MayRead, extents_out, start};
+ghost use Rattle.aff_model.specs.Cells.{is_bad_at};
 ghost use Rattle.aff_model.specs.Legal.{IsComplete};
+ghost use Rattle.aff_model.specs.Plan.{has_place};
 
+use crate::runs::add_run;
 use crate::{Event, Refused};
 use aff_model::{CHUNK, Extent, Kind, Memory, Plan, Publication, Run, SECTOR};
 use std::alloc::{AllocError, Global};
@@ -36,12 +39,12 @@ impl<'p> Model for State<'p> {
     ghost Value = { CoreState };
 
     ghost view = { λ s. record {
-        plan = s.plan.now;
-        passes = s.passes;
-        sessions = s.sessions;
-        claims = s.claims.items;
-        history = s.history.items;
-        finished = s.finished;
+      plan = s.plan.now;
+      passes = s.passes;
+      sessions = s.sessions;
+      claims = s.claims.items;
+      history = s.history.items;
+      finished = s.finished;
     } };
 
     ghost invariant = { λ s. IsKept s.plan.now s.claims.items (extents_out s.history.items) s.places.items (vec_capacity s.history) };
@@ -49,7 +52,12 @@ impl<'p> Model for State<'p> {
 
 impl<'p> State<'p> {
     /// The first state of a run of a plan by so many passes and sessions.
-    pub fn new(alloc: Global, plan: &'p Plan, passes: u32, sessions: u32) -> Result<State<'p>, Memory>
+    pub fn new(
+        alloc: Global,
+        plan: &'p Plan,
+        passes: u32,
+        sessions: u32,
+    ) -> Result<State<'p>, Memory>
         ensures { IfOk result (λ s. s ≡ start plan.now passes sessions) }
     {
         let count = plan.extents().len();
@@ -83,6 +91,38 @@ impl<'p> State<'p> {
             Event::Raise { session, extent } => self.raise(session, extent),
             Event::Finish => self.finish(),
         }
+    }
+
+    /// The greatest runs of one kind of a range, in bytes. It looks each sector of the range up in the plan, and
+    /// goes through the unreadable sectors of its publication.
+    pub fn answer(&self, at: u64, len: u64) -> Result<Vec<Run>, Memory>
+        requires { at + len ≤ self.now.plan.size }
+        ensures { IfOk result (λ v. IsAnswer self.now.plan.extents self.now.history at len v.items) }
+    {
+        self.runs_of(at, len).map_err(|_| Memory)
+    }
+
+    fn runs_of(&self, at: u64, len: u64) -> Result<Vec<Run>, AllocError>
+        requires { at + len ≤ self.now.plan.size }
+        ensures { IfOk result (λ v. IsAnswer self.now.plan.extents self.now.history at len v.items) }
+    {
+        let size = self.plan.size();
+        prove!(len <= size && at <= size - len);
+        let mut runs = Vec::new(self.alloc);
+        let mut done = 0;
+        while done < len {
+            let next = at + done;
+            let part = (SECTOR - next % SECTOR).min(len - done);
+            add_run(&mut runs, part, self.kind(next))?;
+            done += part;
+        }
+        Ok(runs)
+    }
+
+    fn kind(&self, at: u64) -> Kind
+        ensures { result ≡ kind_at self.now.plan.extents self.now.history at }
+    {
+        kind_in(self.plan, &self.places, &self.history, at)
     }
 
     fn claim(&mut self, claimant: u32, extent: u32) -> Result<(), Refused>
@@ -190,6 +230,35 @@ impl<'p> State<'p> {
             Some(extent) => is_shaped(extent, publication),
             None => false,
         }
+    }
+}
+
+fn kind_in(plan: &Plan, places: &[Option<u32>], history: &[Publication], at: u64) -> Kind
+    requires count { length places.now ≡ length plan.now.extents }
+    requires tracks { Tracks (extents_out history.now) places.now }
+    ensures { result ≡ kind_at plan.now.extents history.now at }
+{
+    let extents = plan.extents();
+    let Some(number) = plan.find(at) else {
+        return Kind::Unknown;
+    };
+    let Some(place) = places[number as usize] else {
+        return Kind::Unknown;
+    };
+    kind_published(&extents[number as usize], &history[place as usize], at)
+}
+
+// The kind of a place of a published extent.
+fn kind_published(extent: &Extent, publication: &Publication, at: u64) -> Kind
+    requires short { extent.now.len ≤ 16777216 }
+    requires inside { IsTrue (has_place at extent.now) }
+    ensures { result ≡ (if is_bad_at extent.now publication.now at then Kind.Unreadable else Kind.Known) }
+{
+    let sector = (at / SECTOR - extent.at / SECTOR) as u32;
+    if publication.bad.contains(&sector) {
+        Kind::Unreadable
+    } else {
+        Kind::Known
     }
 }
 

@@ -26,7 +26,6 @@ pub loop-place-preserved : goal.loop-place-preserved
 loop-place-preserved c =
     let t = YieldsList-turn (YieldsList-from_enumerate {s = c.into_iter-place-iterator.result} (YieldsList-from_vec {s = c.into_iter-place-iterator.result.iter} c.args.events.items (cc) (cc)) (cc)) c.loop-place.yielded c.loop-place.place-iterator c.loop-place.yielded_by c.next.result c.next.new.self (c.in-Some.place, c.in-Some.event) c.in-Some.is c.next.ensures.steps in
     let turn = turn-from_enumerate c.args.events.items (length c.loop-place.yielded) c.in-Some.place c.in-Some.event t.0 t.1 in
-    
     let n = length_push c.loop-place.yielded (c.in-Some.place, c.in-Some.event) in
     let Q : ℕ → Type 0 = λ k. IsRun (start c.args.plan.now c.args.passes c.args.sessions) (take k c.args.events.items) c.apply.new.self in
     record {
@@ -38,6 +37,6 @@ loop-place-preserved c =
 pub returns-clause-named : goal.returns-clause-named
 returns-clause-named c place h =
     absurd (refused-no_run _ _ place c.loop-place.state h
-        (let e = YieldsList-end (YieldsList-from_enumerate {s = c.into_iter-place-iterator.result} (YieldsList-from_vec {s = c.into_iter-place-iterator.result.iter} c.args.events.items (cc) (cc)) (cc)) c.loop-place.yielded c.loop-place.place-iterator c.loop-place.yielded_by c.next.result c.next.new.self c.in-None.is c.next.ensures.steps in
-        let n = length-enumerate_from 0 c.args.events.items in
-        run-whole _ _ (length c.loop-place.yielded) _ (omega (arith, e.1, n)) c.loop-place.invariant.run))
+    (let e = YieldsList-end (YieldsList-from_enumerate {s = c.into_iter-place-iterator.result} (YieldsList-from_vec {s = c.into_iter-place-iterator.result.iter} c.args.events.items (cc) (cc)) (cc)) c.loop-place.yielded c.loop-place.place-iterator c.loop-place.yielded_by c.next.result c.next.new.self c.in-None.is c.next.ensures.steps in
+    let n = length-enumerate_from 0 c.args.events.items in
+    run-whole _ _ (length c.loop-place.yielded) _ (omega (arith, e.1, n)) c.loop-place.invariant.run))
