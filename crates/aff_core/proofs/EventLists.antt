@@ -1,5 +1,5 @@
 -- Lists of events and the states that they lead to.
-use Rattle.std.proofs.Common.{◌≡◌, ℕ, ◌+◌, ◌<◌, ◌≤◌, ◌⊎◌, inl, inr, true, false, Some, Result, Ok, Err, OnOk, OnErr, List, [], ◌∷◌, ◌++◌, length, get_or, take, drop, refl, sym, ap, subst, ◌∙◌, zero-add, arith, slice_get}
+use Rattle.std.proofs.Common.{◌≡◌, ℕ, ◌+◌, ◌<◌, ◌≤◌, inl, inr, true, false, Some, Result, Ok, Err, OnOk, OnErr, List, [], ◌∷◌, ◌++◌, length, get_or, take, drop, refl, sym, ap, subst, ◌∙◌, zero-add, arith}
 use Rattle.std.specs.Result.{is_err}
 use Rattle.std.specs.List.{enumerate_from}
 use Rattle.std.proofs.lemmas.List.FromFn.{length-enumerate_from, get_or-enumerate_from}
@@ -100,3 +100,15 @@ err_then (Err e) P b h = h
 -- all events make a run
 pub run-whole : (c : CoreState) (es : List Event) (n : ℕ) (d : CoreState) → length es ≤ n → IsRun c (take n es) d → IsRun c es d
 run-whole c es n d b h = let P : List Event → Type 0 = λ l. IsRun c l d in subst P (take_all n es b) h
+
+-- the plan stays
+pub step-plan : (c : CoreState) (e : Event) (d : CoreState) → IsStep c e d → d.plan ≡ c.plan
+step-plan c (Claim k e) d h = ap (λ (s : CoreState). s.plan) h.1
+step-plan c (Publish p) d h = ap (λ (s : CoreState). s.plan) h.1
+step-plan c (Read s a l n) d h = ap (λ (s : CoreState). s.plan) h.1
+step-plan c (Raise s e) d h = ap (λ (s : CoreState). s.plan) h.1
+step-plan c Finish d h = ap (λ (s : CoreState). s.plan) h.1
+
+pub run-plan : (c : CoreState) (es : List Event) (d : CoreState) → IsRun c es d → d.plan ≡ c.plan
+run-plan c [] d h = ap (λ (s : CoreState). s.plan) h
+run-plan c (e ∷ es) d h = run-plan h.0 es d h.2 ∙ step-plan c e h.0 h.1

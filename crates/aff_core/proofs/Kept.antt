@@ -1,12 +1,11 @@
 -- The places of the published extents, through each event.
-use Rattle.std.proofs.Common.{◌≡◌, ◌≢◌, ℕ, ◌+◌, ◌<◌, ◌≤◌, ◌⊎◌, inl, inr, zero, suc, Bool, true, false, cond, Option, None, Some, List, [], ◌∷◌, ◌++◌, length, get_or, set, replicate, count_by, map, refl, sym, ap, subst, ◌∙◌, arith, Contains, slice_get, MatchBool, leb}
+use Rattle.std.proofs.Common.{◌≡◌, ◌≢◌, ℕ, ◌<◌, ◌≤◌, inl, inr, zero, suc, Bool, true, false, cond, Option, None, Some, List, [], ◌∷◌, ◌++◌, length, get_or, set, replicate, count_by, refl, sym, ap, subst, ◌∙◌, arith, Contains, slice_get, MatchBool, leb}
 use Rattle.std.specs.Option.{is_none}
-use Rattle.std.specs.List.{All}
 use Rattle.std.proofs.lemmas.Bool.{cases_eq, false≢true}
 use Rattle.std.proofs.lemmas.Bool.Decides.{leb_tells, nat_tests}
-use Rattle.std.proofs.lemmas.List.{get_or-set_same, get_or_append_left, get_or_push, length-set, length-replicate, length_push, length-map, map-append, get_or-replicate, get_or_default}
+use Rattle.std.proofs.lemmas.List.{get_or-set_same, get_or_append_left, get_or_push, length-set, length-replicate, length_push, length-map, map-append, get_or_default}
 use Rattle.std.proofs.lemmas.List.Sums.{sum_by-set, sum_by-cons}
-use Rattle.std.proofs.lemmas.Option.{slice_get-get_or, slice_get_within, same_Some, none-some, get_or_from_slice_get, slice_get_cases}
+use Rattle.std.proofs.lemmas.Option.{slice_get-get_or, slice_get_within, same_Some, get_or_from_slice_get}
 use Rattle.aff_model.specs.Plan.{Planned, IsPlan}
 use Rattle.aff_model.specs.History.{Published}
 use Rattle.aff_core.specs.Steps.{CoreState, MayPublish, extents_out}

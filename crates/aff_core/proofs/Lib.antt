@@ -1,3 +1,4 @@
+pub mod EventLaws
 pub mod EventLists
 pub mod Kept
 pub mod KindLists

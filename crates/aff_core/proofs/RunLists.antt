@@ -1,6 +1,5 @@
 -- Runs of one kind, one more at their end.
-use Rattle.std.proofs.Common.{◌≡◌, ◌≢◌, ℕ, ◌+◌, ◌-◌, ◌<◌, ◌≤◌, ◌⊎◌, inl, inr, List, [], ◌∷◌, ◌++◌, length, get_or, set, take, drop, replicate, refl, sym, ap, subst, ◌∙◌, arith, All}
-use Rattle.std.specs.List.{AllAdjacentBelow, flat_map}
+use Rattle.std.proofs.Common.{◌≡◌, ◌≢◌, ℕ, ◌+◌, ◌<◌, ◌≤◌, inl, inr, List, [], ◌∷◌, ◌++◌, length, get_or, set, take, replicate, sym, ap, subst, ◌∙◌, arith}
 use Rattle.std.proofs.lemmas.Bool.{cases_eq}
 use Rattle.std.proofs.lemmas.List.{append_assoc, replicate-append-replicate, take_more, take_all, take_more_set, get_or-set_same, get_or-set_other, get_or_append_left, get_or_push, get_or_read, length-set, length_push, length-replicate, length-append, flat_map_more, get_or_default}
 use Rattle.aff_model.specs.declared.cell.Kind.{Kind}

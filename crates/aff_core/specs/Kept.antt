@@ -1,5 +1,5 @@
 -- What a state keeps beside its lists, so that each event takes a few steps.
-use Rattle.std.specs.Prelude.{◌≡◌, ℕ, ◌+◌, ◌<◌, ◌≤◌, Option, None, Some, List, length, count_by, slice_get, slice_index}
+use Rattle.std.specs.Prelude.{◌≡◌, ℕ, ◌+◌, ◌<◌, ◌≤◌, Option, Some, List, length, count_by, slice_get, slice_index}
 use Rattle.std.specs.Option.{is_none}
 use Rattle.aff_model.specs.Plan.{Planned, IsPlan}
 

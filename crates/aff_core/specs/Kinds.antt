@@ -1,5 +1,5 @@
 -- The answer by a history: what kind each place of a range is of, and the greatest runs of one kind.
-use Rattle.std.specs.Prelude.{◌≡◌, ◌≢◌, ℕ, ◌+◌, ◌<◌, Option, None, Some, List, [], ◌∷◌, length, map, All, replicate, slice_get, if◌then◌else◌}
+use Rattle.std.specs.Prelude.{◌≡◌, ◌≢◌, ℕ, ◌<◌, Option, None, Some, List, [], ◌∷◌, length, map, All, replicate, slice_get, if◌then◌else◌}
 use Rattle.std.specs.List.{AllAdjacentBelow, flat_map, range_with_len}
 use Rattle.aff_model.specs.declared.cell.Kind.{Kind}
 use Rattle.aff_model.specs.declared.cell.Kind.TheVariants.{Known, Unreadable, Unknown}

@@ -3,10 +3,12 @@
 #![tactic(auto)]
 
 mod event;
+mod law;
 mod machine;
 mod runs;
 mod state;
 
 pub use event::{CoreError, Event, Refused};
+pub use law::laws;
 pub use machine::run;
 pub use state::State;

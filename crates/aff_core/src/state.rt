@@ -78,6 +78,7 @@ impl<'p> State<'p> {
         ensures step { OnOk result (IsStep self.old event self.new) }
         ensures refused { OnErr result (HasNoStep self.old event) }
         ensures err { OnErr result (self.new ≡ self.old) }
+        ensures plan { self.new.plan ≡ self.old.plan }
     {
         match event {
             Event::Claim { claimant, extent } => self.claim(claimant, extent),

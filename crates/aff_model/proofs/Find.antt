@@ -1,5 +1,5 @@
 -- Looking an extent up by a place, in an index.
-use Rattle.std.proofs.Common.{◌≡◌, ◌≢◌, ℕ, ◌+◌, ◌-◌, ◌<◌, ◌≤◌, ◌⊎◌, inl, inr, ◌^◌, true, false, leb, ltb, List, length, get_or, refl, sym, ap, subst, ◌∙◌, arith, All, AllPairs, IsTrue, IsSomeAnd, slice_get}
+use Rattle.std.proofs.Common.{◌≡◌, ℕ, ◌+◌, ◌-◌, ◌<◌, ◌≤◌, ◌⊎◌, inl, inr, true, false, leb, List, length, get_or, sym, subst, ◌∙◌, arith, All, AllPairs, IsTrue, IsSomeAnd, slice_get}
 use Rattle.std.specs.List.{list_any, AllWithin}
 use Rattle.std.proofs.lemmas.Bool.Decides.{leb_tells, nat_tests}
 use Rattle.std.proofs.lemmas.List.{get_or_default}
@@ -8,7 +8,7 @@ use Rattle.std.proofs.lemmas.Option.{slice_get-get_or}
 use Rattle.aff_model.specs.declared.extent.Extent.{Extent}
 use Rattle.aff_model.specs.Index.{IsIndex, HasBytes, extent_at, start_of, end_of}
 use Rattle.aff_model.specs.Plan.{AreApart, has_place}
-use Rattle.aff_model.proofs.Index.{Rises, ends_before, number_below, place_of, rises-from_apart}
+use Rattle.aff_model.proofs.Index.{Rises, ends_before, place_of, rises-from_apart}
 
 abbrev nothing : Extent
 nothing = record { at = 0; len = 0; priority = 0 }

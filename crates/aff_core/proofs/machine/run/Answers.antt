@@ -1,11 +1,11 @@
-use Rattle.std.proofs.Common.{arith, rules, inl, inr, ap, sym, ◌∙◌, Err, ℕ, subst, length, take}
+use Rattle.std.proofs.Common.{arith, rules, inl, ap, sym, ◌∙◌, Err, ℕ, subst, length, take}
 use Rattle.std.proofs.lemmas.List.{length_push}
 use Rattle.std.proofs.lemmas.List.FromFn.{length-enumerate_from}
 use Rattle.std.proofs.lemmas.Iterator.Adapters.{YieldsList-from_vec}
 use Rattle.std.proofs.lemmas.Iterator.Consumers.{YieldsList-from_enumerate, YieldsList-end, YieldsList-turn}
 use Rattle.aff_core.specs.declared.event.CoreError.TheVariants.{Refused}
-use Rattle.aff_core.specs.Steps.{CoreState, IsFirstRefused, IsRun, start}
-use Rattle.aff_core.proofs.EventLists.{IsTurn, turn-from_enumerate, err_then, ok_then, refused-at, refused-no_run, refused-unique, run-more, run-whole}
+use Rattle.aff_core.specs.Steps.{IsFirstRefused, IsRun, start}
+use Rattle.aff_core.proofs.EventLists.{turn-from_enumerate, err_then, ok_then, refused-at, refused-no_run, refused-unique, run-more, run-plan, run-whole}
 use Rattle.aff_core.proofs.machine.run.Goals as goal
 
 pub returns-then-is_err-clause-refusal : goal.returns-then-is_err-clause-refusal
@@ -40,3 +40,6 @@ returns-clause-named c place h =
     (let e = YieldsList-end (YieldsList-from_enumerate {s = c.into_iter-place-iterator.result} (YieldsList-from_vec {s = c.into_iter-place-iterator.result.iter} c.args.events.items (cc) (cc)) (cc)) c.loop-place.yielded c.loop-place.place-iterator c.loop-place.yielded_by c.next.result c.next.new.self c.in-None.is c.next.ensures.steps in
     let n = length-enumerate_from 0 c.args.events.items in
     run-whole _ _ (length c.loop-place.yielded) _ (omega (arith, e.1, n)) c.loop-place.invariant.run))
+
+pub returns-clause-plan : goal.returns-clause-plan
+returns-clause-plan c = run-plan _ _ _ c.loop-place.invariant.run

@@ -1,4 +1,4 @@
-use Rattle.std.proofs.Common.{arith, rules, subst, sym, length, get_or, List, ℕ, ◌+◌, ◌-◌, ◌≡◌, ◌≢◌, ◌∙◌, true, false}
+use Rattle.std.proofs.Common.{arith, subst, sym, length, get_or, List, ℕ, ◌+◌, ◌-◌, ◌≡◌, ◌≢◌, ◌∙◌}
 use Rattle.std.proofs.lemmas.Bool.{false≢true}
 use Rattle.aff_model.specs.declared.cell.Run.{Run}
 use Rattle.aff_core.specs.Kinds.{AreGreatest}

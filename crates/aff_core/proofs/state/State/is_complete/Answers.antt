@@ -1,4 +1,4 @@
-use Rattle.std.proofs.Common.{leb, length, ap, ◌≡◌, ◌∙◌, sym, ℕ}
+use Rattle.std.proofs.Common.{leb, length, ap, ◌≡◌, ◌∙◌, sym}
 use Rattle.std.proofs.lemmas.List.{length-map}
 use Rattle.aff_core.specs.Steps.{extents_out}
 use Rattle.aff_core.proofs.Kept.{complete-iff}

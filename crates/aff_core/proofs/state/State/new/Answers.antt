@@ -1,5 +1,4 @@
-use Rattle.std.proofs.Common.{rules, arith}
-use Rattle.std.proofs.lemmas.Grind.{common_steps}
+use Rattle.std.proofs.Common.{rules}
 use Rattle.aff_core.proofs.Kept.{kept-start}
 use Rattle.aff_core.proofs.state.State.new.Goals as goal
 

@@ -1,7 +1,7 @@
-use Rattle.std.proofs.Common.{◌+◌, ◌-◌, ◌%◌, ◌≤◌, ◌≡◌, All, arith, rules, sym, subst, ap, ◌∙◌, length, ◌<◌, ◌++◌, replicate}
+use Rattle.std.proofs.Common.{◌+◌, ◌-◌, ◌%◌, ◌≤◌, All, arith, sym, subst, ap, ◌∙◌, length, ◌++◌, replicate}
 use Rattle.std.proofs.lemmas.List.FromFn.{length-map-range_with_len}
 use Rattle.aff_model.specs.Plan.{IsExtent, Planned}
-use Rattle.aff_core.specs.Kinds.{kind_at, kinds_of, spread}
+use Rattle.aff_core.specs.Kinds.{kind_at, kinds_of}
 use Rattle.aff_core.specs.Steps.{CoreState}
 use Rattle.aff_core.proofs.KindLists.{kinds_of-more}
 use Rattle.aff_core.proofs.state.State.runs_of.Goals as goal
