@@ -14,6 +14,7 @@ use Rattle.aff_core.specs.Kinds.{kind_at, kind_by}
 use Rattle.aff_core.specs.Laws.{finish_count, fronts_of, is_finish, kind_of}
 use Rattle.aff_core.specs.Steps.{CoreState, IsRun, IsStep, extents_out}
 use Rattle.aff_core.proofs.EventLists.{run-split}
+use Rattle.aff_core.proofs.KindLists.{not_true}
 use Rattle.aff_model.specs.declared.cell.Cell.{Cell}
 use Rattle.aff_model.specs.declared.cell.Cell.TheVariants.{Byte, Unreadable}
 use Rattle.aff_model.specs.declared.extent.Extent.{Extent}
@@ -53,10 +54,6 @@ nat_eq-IsEquivalence = record { refl = λ x. grind (arith, nat_tests); symm = λ
 
 eq-same : (x y : ℕ) → nat_eq x y ≡ true → x ≡ y
 eq-same x y h = grind (arith, nat_tests)
-
-not_true : (b : Bool) → ¬ (b ≡ true) → b ≡ false
-not_true true h = absurd (h refl)
-not_true false h = refl
 
 step-once : (c : CoreState) (e : Event) (d : CoreState) → IsStep c e d → IsDistinct nat_eq (extents_out c.history) → IsDistinct nat_eq (extents_out d.history)
 step-once c (Claim k e) d h o = let P : CoreState → Type 0 = λ s. IsDistinct nat_eq (extents_out s.history) in subst P (sym h.1) o

@@ -12,6 +12,7 @@ use Rattle.aff_model.specs.declared.cell.Kind.TheVariants.{Known, Unreadable, Un
 use Rattle.aff_model.specs.declared.extent.Extent.{Extent}
 use Rattle.aff_model.specs.Cells.{is_bad_at}
 use Rattle.aff_model.specs.History.{Published}
+use Rattle.aff_model.specs.Index.{no_extent}
 use Rattle.aff_model.specs.Plan.{AreApart, IsExtent, IsPlan, has_place}
 use Rattle.aff_model.proofs.Find.{has_place-inside, has_place-outside}
 use Rattle.aff_core.specs.Kept.{Tracks}
@@ -48,19 +49,16 @@ kind_at-hit es (r ∷ history) i (suc q) p e before there of has =
 begun_by : (i : ℕ) (e : Extent) → has_place i e ≡ true → (e.at ≤ i) × (i < e.at + e.len)
 begun_by i e h = (grind (arith, nat_tests), grind (arith, nat_tests))
 
-abbrev pub nothing : Extent
-nothing = record { at = 0; len = 0; priority = 0 }
-
 apart_either : (size : ℕ) (es : List Extent) → IsPlan size es → (n m : ℕ) (e f : Extent) → slice_get es n ≡ Some e → slice_get es m ≡ Some f → m ≢ n → AreApart e f ⊎ AreApart f e
 apart_either size es plan n m e f is of ne =
     let nb = slice_get_within es n e is in
     let mb = slice_get_within es m f of in
-    let en : get_or es n nothing ≡ e = get_or_from_slice_get es n e nothing is in
-    let fm : get_or es m nothing ≡ f = get_or_from_slice_get es m f nothing of in
+    let en : get_or es n no_extent ≡ e = get_or_from_slice_get es n e no_extent is in
+    let fm : get_or es m no_extent ≡ f = get_or_from_slice_get es m f no_extent of in
     let P : Extent → Extent → Type 0 = AreApart in
     elim (leb_tells n m) [
-      | inl x ↦ inl (subst (λ y. P e y) fm (subst (λ y. P y (get_or es m nothing)) en (plan.apart n m nothing (omega arith) mb)))
-      | inr y ↦ inr (subst (λ z. P f z) en (subst (λ z. P z (get_or es n nothing)) fm (plan.apart m n nothing (omega arith) nb)))
+      | inl x ↦ inl (subst (λ y. P e y) fm (subst (λ y. P y (get_or es m no_extent)) en (plan.apart n m no_extent (omega arith) mb)))
+      | inr y ↦ inr (subst (λ z. P f z) en (subst (λ z. P z (get_or es n no_extent)) fm (plan.apart m n no_extent (omega arith) nb)))
     ]
 
 outside_other : (i : ℕ) (e f : Extent) → AreApart e f ⊎ AreApart f e → has_place i e ≡ true → has_place i f ≡ false
@@ -80,18 +78,18 @@ pub misses-other : (size : ℕ) (es : List Extent) → IsPlan size es → (i n m
 misses-other size es plan i n m e is has ne =
     miss_by i e (slice_get es m) (λ f of. outside_other i e f (apart_either size es plan n m e f is of ne) has)
 
-not_true : (b : Bool) → ¬ (b ≡ true) → b ≡ false
+pub not_true : (b : Bool) → ¬ (b ≡ true) → b ≡ false
 not_true true h = absurd (h refl)
 not_true false h = refl
 
 -- no extent holds the place
 pub misses-all : (es : List Extent) (i : ℕ) → list_any (has_place i) es ≡ false → (n : ℕ) → Misses es i n
 misses-all es i none n =
-    miss_by i nothing (slice_get es n) (λ f of.
+    miss_by i no_extent (slice_get es n) (λ f of.
     not_true (has_place i f) (λ has.
     let b = slice_get_within es n f of in
-    let at : get_or es n nothing ≡ f = get_or_from_slice_get es n f nothing of in
-    let any : list_any (has_place i) es ≡ true = list_any_at (has_place i) es n nothing b (ap (has_place i) at ∙ has) in
+    let at : get_or es n no_extent ≡ f = get_or_from_slice_get es n f no_extent of in
+    let any : list_any (has_place i) es ≡ true = list_any_at (has_place i) es n no_extent b (ap (has_place i) at ∙ has) in
     false≢true (sym none ∙ any)))
 
 pub kind-outside : (es : List Extent) (history : List Published) (i : ℕ) → list_any (has_place i) es ≡ false → kind_at es history i ≡ Unknown
@@ -100,13 +98,13 @@ kind-outside es history i none = kind_at-miss es history i (λ q b. misses-all e
 -- the extent of a number holds the place
 pub record IsHolder (es : List Extent) (n i : ℕ) : Type 0 where
   pub inside : n < length es
-  pub there : slice_get es n ≡ Some (get_or es n nothing)
-  pub holds : has_place i (get_or es n nothing) ≡ true
+  pub there : slice_get es n ≡ Some (get_or es n no_extent)
+  pub holds : has_place i (get_or es n no_extent) ≡ true
 
 holder_by : (es : List Extent) (n i : ℕ) (o : Option Extent) → slice_get es n ≡ o → IsSomeAnd o (λ e. IsTrue (has_place i e)) → IsHolder es n i
 holder_by es n i None is h = absurd h
 holder_by es n i (Some e) is h =
-    let at : get_or es n nothing ≡ e = get_or_from_slice_get es n e nothing is in
+    let at : get_or es n no_extent ≡ e = get_or_from_slice_get es n e no_extent is in
     record { inside = slice_get_within es n e is; there = is ∙ ap Some (sym at); holds = ap (has_place i) at ∙ h }
 
 pub holder : (es : List Extent) (n i : ℕ) → IsSomeAnd (slice_get es n) (λ e. IsTrue (has_place i e)) → IsHolder es n i
@@ -116,19 +114,19 @@ holder es n i h = holder_by es n i (slice_get es n) refl h
 pub kind-unpublished : (size : ℕ) (es : List Extent) (history : List Published) (places : List (Option ℕ)) (n i : ℕ) → IsPlan size es → Tracks (extents_out history) places → IsHolder es n i → slice_get places n ≡ Some None → kind_at es history i ≡ Unknown
 kind-unpublished size es history places n i plan t h free =
     kind_at-miss es history i (λ q b.
-    misses-other size es plan i n (get_or (extents_out history) q 0) (get_or es n nothing) h.there h.holds (λ same.
+    misses-other size es plan i n (get_or (extents_out history) q 0) (get_or es n no_extent) h.there h.holds (λ same.
     let l = length-map history (λ (p : Published). p.extent) in
     let placed : slice_get places n ≡ Some (Some q) = ap (slice_get places) (sym same) ∙ t.each q (omega arith) in
     let wrong : ◌≡◌ {A = Option (Option ℕ)} (Some None) (Some (Some q)) = sym free ∙ placed in
     cc))
 
 -- it is published
-pub kind-published : (size : ℕ) (es : List Extent) (history : List Published) (places : List (Option ℕ)) (n i q : ℕ) (p : Published) → IsPlan size es → Tracks (extents_out history) places → IsHolder es n i → slice_get places n ≡ Some (Some q) → q < length history → p ≡ get_or history q p → kind_at es history i ≡ cond (is_bad_at (get_or es n nothing) p i) Unreadable Known
+pub kind-published : (size : ℕ) (es : List Extent) (history : List Published) (places : List (Option ℕ)) (n i q : ℕ) (p : Published) → IsPlan size es → Tracks (extents_out history) places → IsHolder es n i → slice_get places n ≡ Some (Some q) → q < length history → p ≡ get_or history q p → kind_at es history i ≡ cond (is_bad_at (get_or es n no_extent) p i) Unreadable Known
 kind-published size es history places n i q p plan t h placed inside read =
     let f = t.found n q placed in
     let of : p.extent ≡ n = ap (λ (x : Published). x.extent) read ∙ sym (get_or-map (λ (x : Published). x.extent) history q p 0 inside) ∙ f.1 in
-    kind_at-hit es history i q p (get_or es n nothing)
-    (λ k b. misses-other size es plan i n (get_or (extents_out history) k 0) (get_or es n nothing) h.there h.holds (λ same.
+    kind_at-hit es history i q p (get_or es n no_extent)
+    (λ k b. misses-other size es plan i n (get_or (extents_out history) k 0) (get_or es n no_extent) h.there h.holds (λ same.
     let had : slice_get places n ≡ Some (Some k) = ap (slice_get places) (sym same) ∙ t.each k (omega (arith, f.0)) in
     let both : ◌≡◌ {A = Option (Option ℕ)} (Some (Some k)) (Some (Some q)) = sym had ∙ placed in
     let kq : k ≡ q = same_Some k q (same_Some (Some k) (Some q) both) in
@@ -159,7 +157,7 @@ each_by : (size : ℕ) (es : List Extent) (n : ℕ) (o : Option Extent) → All 
 each_by size es n None each is = tt
 each_by size es n (Some e) each is =
     let P : Extent → Type 0 = IsExtent size in
-    subst P (get_or_from_slice_get es n e nothing is) (each n nothing (slice_get_within es n e is))
+    subst P (get_or_from_slice_get es n e no_extent is) (each n no_extent (slice_get_within es n e is))
 
 each_of : (size : ℕ) (es : List Extent) (n : ℕ) → All (IsExtent size) es → IfSome (slice_get es n) (IsExtent size)
 each_of size es n each = each_by size es n (slice_get es n) each refl
