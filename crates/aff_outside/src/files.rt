@@ -2,6 +2,7 @@
 ghost use Rattle.std.specs.Prelude.{◌≡◌, false, None, IsErrOf};
 ghost use Rattle.std.specs.FinMap.{empty};
 ghost use Rattle.aff_model.specs.Causes.{HasCause};
+ghost use Rattle.aff_outside.specs.declared.files.Trouble.TheVariants.{Memory};
 
 use crate::device::{Device, DeviceFailed};
 use crate::folder::{Folder, FolderError, Segment};
@@ -92,12 +93,16 @@ enum Trouble {
 }
 
 impl From<AllocError> for Trouble {
+    ghost from_gives = { λ _ e. e ≡ Memory };
+
     fn from(_: AllocError) -> Self {
         Trouble::Memory
     }
 }
 
 impl<T: Drop> From<AllocFailed<T>> for Trouble {
+    ghost from_gives = { λ _ e. e ≡ Memory };
+
     fn from(_: AllocFailed<T>) -> Self {
         Trouble::Memory
     }

@@ -13,6 +13,8 @@ mod folder;
 mod gate;
 mod segment;
 mod streams;
+#[cfg(test)]
+mod tests;
 mod text;
 
 pub use device::{Device, DeviceFailed};

@@ -45,7 +45,7 @@ published e c i x h =
     let below : (i - x.at) / 32768 < chunk_count x.len = omega (arith, has_place_from i x h, has_place_to i x h) in
     ap (λ o. place_spot o x i) (stored_place c (chunk_count x.len) ((i - x.at) / 32768) below)
 
-nth_after : (done : List Extent) (x : Extent) (rest : List Extent) → slice_get (done ++ x ∷ rest) (length done) ≡ Some x
+pub nth_after : (done : List Extent) (x : Extent) (rest : List Extent) → slice_get (done ++ x ∷ rest) (length done) ≡ Some x
 nth_after done x rest =
     slice_get-get_or (done ++ x ∷ rest) (length done) x (omega (arith, length-append done (x ∷ rest))) ∙ ap Some (get_or-append_seam done x rest x)
 

@@ -122,3 +122,8 @@ module _ (held : Held) (uuid : List ℕ) (content : Content) (extents : List Ext
 
   pub image_byte : (i : ℕ) → volume_byte held (volume_of uuid) i ≡ Some (fill_of i (content_of content extents no_sector i))
   image_byte i = ap (spot_byte held (volume_of uuid) i) (spot_at i) ∙ byte_at i (stored_spot 0 extents i) (stored_reads (stream_byte held (stream_urn uuid)) content extents i image.stream)
+
+-- the list of targets as it is written, piece by piece
+pub targets_text_is : (uuid : List ℕ) → targets_text (stream_urn uuid) ≡ codes "aff4://" ++ (uuid ++ codes "/data\nhttp://aff4.org/Schema#Zero\nhttp://aff4.org/Schema#UnreadableData\n")
+unfolding targets_text
+targets_text_is uuid = ap (λ v. codes "aff4://" ++ v) (append_assoc uuid (codes "/data") (codes "\nhttp://aff4.org/Schema#Zero\nhttp://aff4.org/Schema#UnreadableData\n"))

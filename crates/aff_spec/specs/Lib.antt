@@ -2,6 +2,7 @@ pub mod Acquired
 pub mod Appends
 pub mod Chunks
 pub mod Names
+pub mod Outcomes
 pub mod PlanText
 pub mod Reads
 pub mod Report

@@ -1,14 +1,36 @@
 //! An extent's bytes, chunk by chunk, into a bevvy.
-ghost use Rattle.std.specs.Prelude.{◌≡◌, ◌⊎◌, ◌+◌, ◌*◌, ◌<◌, ◌≤◌, ◌%◌, [], ◌∷◌, length, replicate, IfErr, OnOk, OnErr, IsErrOf, IsTrue};
+ghost use Rattle.std.specs.Prelude.{◌≡◌, ◌⊎◌, ◌+◌, ◌*◌, ◌<◌, ◌≤◌, ◌%◌, [], ◌∷◌, length, replicate, All, IfErr, OnOk, OnErr, IsErrOf, IsTrue};
 ghost use Rattle.aff_model.specs.Causes.{HasCause};
-ghost use Rattle.aff_model.specs.Plan.{chunk_count};
+ghost use Rattle.aff_model.specs.Plan.{chunk_count, chunks_of};
 ghost use Rattle.aff_spec.specs.Appends.{applied, Reaches, appends_to};
 ghost use Rattle.aff_spec.specs.Chunks.{chunk_at, chunks_in};
 
 use crate::fault::Fault;
+use aff_model::Extent;
 use aff_outside::{Folder, FolderError};
 
-const CHUNK: usize = 32_768;
+/// Bytes of a chunk.
+pub const CHUNK: usize = 32_768;
+
+/// How many chunks a length in bytes has.
+pub fn chunks_in_len(len: u64) -> u64
+    ensures { result ≡ chunk_count len }
+{
+    len.div_ceil(CHUNK as u64)
+}
+
+/// How many chunks some extents have together.
+pub fn count_chunks(extents: &[Extent]) -> u64
+    requires few { length extents.now ≤ 65536 }
+    requires short { All (λ e. e.len ≤ 16777216) extents.now }
+    ensures { result ≡ chunks_of extents.now }
+{
+    let mut count = 0;
+    for extent in extents {
+        count += chunks_in_len(extent.len);
+    }
+    count
+}
 
 /// Makes all bytes 0.
 fn clear(out: &mut [u8])
@@ -56,7 +78,8 @@ pub fn store_chunks<F: Folder>(
     ensures cause { HasCause (F.folder_faults folder.old) (F.folder_faults folder.new) (IsErrOf result Fault.Folder) }
     ensures fault { IfErr result (λ e. (e ≡ Fault.Folder) ⊎ (e ≡ Fault.Memory)) }
 {
-    for place in 0..bytes.len().div_ceil(CHUNK) {
+    let count = chunks_in_len(bytes.len() as u64) as usize;
+    for place in 0..count {
         pad(bytes, place, chunk);
         if let Err(fault) = append(folder, bevvy, chunk) {
             return Err(fault);

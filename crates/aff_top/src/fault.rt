@@ -2,6 +2,7 @@
 ghost use Rattle.std.specs.Prelude.{◌≡◌};
 ghost use Rattle.aff_top.specs.declared.fault.Fault.TheVariants.{Memory};
 
+use aff_model::Memory as NoMemory;
 use std::alloc::{AllocError, AllocFailed};
 
 /// The first fault of a run, in the order in which a run goes: the words, the devices that were handed in,
@@ -15,6 +16,14 @@ pub enum Fault {
     Reading,
     Folder,
     Memory,
+}
+
+impl From<NoMemory> for Fault {
+    ghost from_gives = { λ _ e. e ≡ Memory };
+
+    fn from(_: NoMemory) -> Self {
+        Fault::Memory
+    }
 }
 
 impl From<AllocError> for Fault {

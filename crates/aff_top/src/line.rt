@@ -1,5 +1,5 @@
 //! The line of an extent.
-ghost use Rattle.std.specs.Prelude.{◌≡◌, ◌≢◌, ◌==◌, ◌<◌, ◌^◌, ◌++◌, ◌∷◌, ℕ, List, false, position, length, IfOk, IfSome, IfNone, IsSomeAnd, Some};
+ghost use Rattle.std.specs.Prelude.{◌≡◌, ◌≢◌, ◌==◌, ◌<◌, ◌^◌, ◌++◌, [], ◌∷◌, ℕ, List, false, position, length, IfOk, IfSome, IfNone, IsSomeAnd, Some};
 ghost use Rattle.std.specs.List.{AllByRecursion};
 ghost use Rattle.std.specs.String.{string_bytes};
 ghost use Rattle.std.specs.Fmt.{decimal};
@@ -23,6 +23,19 @@ fn split_at_byte(bytes: &[u8], byte: u8) -> Option<(&[u8], &[u8])>
 {
     match place_of(bytes, byte) {
         Some(place) => Some((&bytes[..place], &bytes[place + 1..])),
+        None => None,
+    }
+}
+
+/// The first line of a text, with its line feed, and what is behind it.
+pub fn split_line(text: &[u8]) -> Option<(&[u8], &[u8])>
+    ensures whole { IfSome result (λ parts. text.now ≡ parts.0.now ++ parts.1.now) }
+    ensures shorter { IfSome result (λ parts. length parts.1.now < length text.now) }
+    ensures first { (xs ys : List ℕ) → text.now ≡ xs ++ 10 ∷ ys → AllByRecursion (λ b. (b == 10) ≡ false) xs
+        → IsSomeAnd result (λ parts. (parts.0.now ≡ xs ++ 10 ∷ []) × (parts.1.now ≡ ys)) }
+{
+    match place_of(text, b'\n') {
+        Some(place) => Some((&text[..place + 1], &text[place + 1..])),
         None => None,
     }
 }
@@ -92,6 +105,7 @@ pub fn read_line(alloc: Global, text: &[u8]) -> Result<Option<Extent>, AllocErro
     ensures some { IfOk result (λ o. IfSome o (λ e. text.now ≡ extent_line e)) }
     ensures only { IfOk result (λ o. IfSome o (λ e. (f : Extent) → FitsExtent f → text.now ≡ extent_line f → f ≡ e)) }
     ensures none { IfOk result (λ o. IfNone o ((e : Extent) → FitsExtent e → text.now ≢ extent_line e)) }
+    ensures fits { IfOk result (λ o. IfSome o FitsExtent) }
 {
     let Some(extent) = fields(text) else {
         return Ok(None);
