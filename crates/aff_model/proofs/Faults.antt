@@ -1,16 +1,13 @@
 -- A list of extents is a plan, or it has one first fault.
-use Rattle.std.proofs.Common.{◌≡◌, ◌≢◌, ℕ, ◌+◌, ◌^◌, ◌<◌, ◌≤◌, ◌⊎◌, inl, inr, List, length, get_or, take, refl, sym, ap, subst, ◌∙◌, arith, All, AllPairs}
+use Rattle.std.proofs.Common.{◌≡◌, ◌≢◌, ℕ, ◌^◌, ◌<◌, ◌≤◌, ◌⊎◌, inl, inr, List, length, get_or, take, refl, sym, ap, subst, ◌∙◌, arith, All, AllPairs}
 use Rattle.std.proofs.lemmas.Bool.Decides.{leb_tells}
 use Rattle.std.proofs.lemmas.List.{get_or_default, get_or-take, length-take-le}
 use Rattle.aff_model.specs.declared.extent.Extent.{Extent}
 use Rattle.aff_model.specs.declared.plan.PlanFault.{PlanFault}
 use Rattle.aff_model.specs.declared.plan.PlanFault.TheVariants.{Sector, TooLong, TooMany, PastEnd, Priority, Overlap, Memory}
 use Rattle.aff_model.specs.Faults.{IsWhole, Fits, Breaks, IsOwnFault, IsFirstOverlap, IsOverlapFault, IsFirstFault}
-use Rattle.aff_model.specs.Index.{extent_at, HasBytes}
+use Rattle.aff_model.specs.Index.{no_extent, extent_at, HasBytes}
 use Rattle.aff_model.specs.Plan.{IsExtent, IsPlan, AreApart}
-
-abbrev nothing : Extent
-nothing = record { at = 0; len = 0; priority = 0 }
 
 whole_if_fits : (size k : ℕ) (e : Extent) → Fits size k e → IsWhole e
 whole_if_fits size k e f = record { at_whole = f.extent.at_whole; len_whole = f.extent.len_whole; some = f.extent.some }
@@ -80,7 +77,7 @@ same_own size es f g a b =
     same_breaks size a.number (extent_at es a.number) f g a.breaks (subst P one b.breaks)
 
 fits_all : (size : ℕ) (es : List Extent) → All (IsExtent size) es → length es ≤ 65536 → (k : ℕ) → k < length es → Fits size k (extent_at es k)
-fits_all size es each few k b = record { extent = each k nothing b; few = omega arith }
+fits_all size es each few k b = record { extent = each k no_extent b; few = omega arith }
 
 own_alone : (size : ℕ) (es : List Extent) (f : PlanFault) → All (IsExtent size) es → length es ≤ 65536 → ¬ (IsOwnFault size es f)
 own_alone size es f each few a = unfit size a.number _ f a.breaks (fits_all size es each few a.number a.there)
@@ -91,9 +88,9 @@ apart_in es j u v inside apart uv vj =
     let P : Extent → Extent → Type 0 = AreApart in
     let before : u < j = omega arith in
     let n : length (take j es) ≡ j = length-take-le j es inside in
-    let w : P (get_or (take j es) u nothing) (get_or (take j es) v nothing) = apart u v nothing uv (omega arith) in
-    let x : P (extent_at es u) (get_or (take j es) v nothing) = subst (λ e. P e (get_or (take j es) v nothing)) (get_or-take j es u nothing before) w in
-    subst (λ e. P (extent_at es u) e) (get_or-take j es v nothing vj) x
+    let w : P (get_or (take j es) u no_extent) (get_or (take j es) v no_extent) = apart u v no_extent uv (omega arith) in
+    let x : P (extent_at es u) (get_or (take j es) v no_extent) = subst (λ e. P e (get_or (take j es) v no_extent)) (get_or-take j es u no_extent before) w in
+    subst (λ e. P (extent_at es u) e) (get_or-take j es v no_extent vj) x
 
 -- an overlap's later extent is no later than another's, nor its earlier one
 overlap_soonest : (es : List Extent) (j i v u : ℕ) → IsFirstOverlap es j i → IsFirstOverlap es v u → j ≤ v
@@ -161,13 +158,13 @@ same_fault size es f g a b = elim (sides size es f a) [
 pub no_fault : (size : ℕ) (es : List Extent) (f : PlanFault) → IsPlan size es → ¬ (IsFirstFault size es f)
 no_fault size es f plan a = elim (sides size es f a) [
   | inl x ↦ own_alone size es f plan.each plan.few x
-  | inr x ↦ x.fault.overlap.shared (plan.apart x.i x.j nothing x.fault.overlap.earlier x.fault.overlap.there)
+  | inr x ↦ x.fault.overlap.shared (plan.apart x.i x.j no_extent x.fault.overlap.earlier x.fault.overlap.there)
 ]
 
 pub each_from_fits : (size : ℕ) (es : List Extent) → ((k : ℕ) → k < length es → Fits size k (extent_at es k)) → All (IsExtent size) es
 each_from_fits size es fit k d b =
     let P : Extent → Type 0 = IsExtent size in
-    subst P (sym (get_or_default es k d nothing b)) (fit k b).extent
+    subst P (sym (get_or_default es k d no_extent b)) (fit k b).extent
 
 pub has_bytes : (size : ℕ) (es : List Extent) → size < 2 ^ 64 → All (IsExtent size) es → All HasBytes es
 has_bytes size es small each k d b = let e = each k d b in (e.some, omega (arith, e.inside))

@@ -1,17 +1,14 @@
 -- Looking an extent up by a place, in an index.
-use Rattle.std.proofs.Common.{◌≡◌, ◌≢◌, ℕ, ◌+◌, ◌-◌, ◌<◌, ◌≤◌, ◌⊎◌, inl, inr, ◌^◌, true, false, leb, ltb, List, length, get_or, refl, sym, ap, subst, ◌∙◌, arith, All, AllPairs, IsTrue, IsSomeAnd, slice_get}
+use Rattle.std.proofs.Common.{◌≡◌, ℕ, ◌+◌, ◌-◌, ◌<◌, ◌≤◌, ◌⊎◌, inl, inr, true, false, leb, List, length, get_or, sym, subst, ◌∙◌, arith, All, AllPairs, IsTrue, IsSomeAnd, slice_get}
 use Rattle.std.specs.List.{list_any, AllWithin}
 use Rattle.std.proofs.lemmas.Bool.Decides.{leb_tells, nat_tests}
 use Rattle.std.proofs.lemmas.List.{get_or_default}
 use Rattle.std.proofs.lemmas.List.Folds.{list_any_none, list_any_at}
 use Rattle.std.proofs.lemmas.Option.{slice_get-get_or}
 use Rattle.aff_model.specs.declared.extent.Extent.{Extent}
-use Rattle.aff_model.specs.Index.{IsIndex, HasBytes, extent_at, start_of, end_of}
+use Rattle.aff_model.specs.Index.{no_extent, IsIndex, HasBytes, extent_at, start_of, end_of}
 use Rattle.aff_model.specs.Plan.{AreApart, has_place}
-use Rattle.aff_model.proofs.Index.{Rises, ends_before, number_below, place_of, rises-from_apart}
-
-abbrev nothing : Extent
-nothing = record { at = 0; len = 0; priority = 0 }
+use Rattle.aff_model.proofs.Index.{Rises, ends_before, place_of, rises-from_apart}
 
 pub has_place-inside : (e : Extent) (at : ℕ) → e.at ≤ at → at < e.at + e.len → has_place at e ≡ true
 has_place-inside e at low high = grind (arith, nat_tests)
@@ -24,15 +21,15 @@ begun_by start at h = let t = leb_tells start at in grind (arith, nat_tests)
 
 -- an extent that has the place, by its number
 pub found : (es : List Extent) (k at : ℕ) → k < length es → has_place at (extent_at es k) ≡ true → IsSomeAnd (slice_get es k) (λ e. IsTrue (has_place at e))
-found es k at b h = rw (slice_get-get_or es k nothing b) h
+found es k at b h = rw (slice_get-get_or es k no_extent b) h
 
 pub found-any : (es : List Extent) (k at : ℕ) → k < length es → has_place at (extent_at es k) ≡ true → list_any (has_place at) es ≡ true
-found-any es k at b h = list_any_at (has_place at) es k nothing b h
+found-any es k at b h = list_any_at (has_place at) es k no_extent b h
 
 -- no extent has the place where each begins behind it or ends before it
 none_has : (es : List Extent) (at : ℕ) → ((k : ℕ) → k < length es → (at < start_of es k) ⊎ (end_of es k ≤ at)) → list_any (has_place at) es ≡ false
 none_has es at h =
-    list_any_none (has_place at) es (λ k d b. rw (get_or_default es k d nothing b) (has_place-outside (extent_at es k) at (h k b)))
+    list_any_none (has_place at) es (λ k d b. rw (get_or_default es k d no_extent b) (has_place-outside (extent_at es k) at (h k b)))
 
 -- by the places of an index
 none_has-by_index : (es : List Extent) (index : List ℕ) → IsIndex es index → (at : ℕ) → ((p : ℕ) → p < length index → (at < start_of es (get_or index p 0)) ⊎ (end_of es (get_or index p 0) ≤ at)) → list_any (has_place at) es ≡ false

@@ -1,23 +1,18 @@
 -- An index of extents by place, and what its order says of the extents.
-use Rattle.std.proofs.Common.{◌≡◌, ◌≢◌, ℕ, ◌+◌, ◌-◌, ◌<◌, ◌≤◌, ◌⊎◌, inl, inr, true, false, nat_eq, List, [], ◌∷◌, ◌++◌, length, get_or, take, refl, sym, ap, subst, ◌∙◌, zero-add, arith, All, AllPairs, Contains}
+use Rattle.std.proofs.Common.{◌≡◌, ◌≢◌, ℕ, ◌+◌, ◌-◌, ◌<◌, ◌≤◌, inl, inr, nat_eq, List, [], ◌∷◌, ◌++◌, length, get_or, take, sym, ap, subst, ◌∙◌, zero-add, arith, All, AllPairs, Contains}
 use Rattle.std.specs.List.{range_with_len, IsDistinct}
-use Rattle.std.specs.List.Sorted.{IsPermutation}
 use Rattle.std.proofs.lemmas.Bool.Decides.{leb_tells, nat_tests}
 use Rattle.std.proofs.lemmas.List.{get_or_default, get_or-take, length-take-le, map-id, take_more}
-use Rattle.std.proofs.lemmas.List.Elements.{Contains-get_or}
 use Rattle.std.proofs.lemmas.List.FromFn.{get_or-range_with_len, length-range_with_len, map-range_with_len_more}
 use Rattle.std.proofs.lemmas.List.Quantifiers.{all_pairs_push}
 use Rattle.std.proofs.lemmas.List.Sorted.{All-permutation, Contains-permutation, length_permutation}
 use Rattle.std.proofs.lemmas.Map.Keys.{IsDistinct-from_apart, IsDistinct-IsPermutation, apart_from_distinct}
 use Rattle.aff_model.specs.declared.extent.Extent.{Extent}
-use Rattle.aff_model.specs.Index.{IsIndex, HasBytes, extent_at, start_of, end_of}
+use Rattle.aff_model.specs.Index.{no_extent, IsIndex, HasBytes, extent_at, start_of, end_of}
 use Rattle.aff_model.specs.Plan.{AreApart}
 
 pub length-index : (es : List Extent) (index : List ℕ) → IsIndex es index → length index ≡ length es
 length-index es index h = length_permutation _ _ h.numbers ∙ length-range_with_len 0 (length es)
-
-abbrev nothing : Extent
-nothing = record { at = 0; len = 0; priority = 0 }
 
 flip_apart : (e f : Extent) → AreApart e f → AreApart f e
 flip_apart e f h = elim h [ inl x ↦ inr x | inr y ↦ inl y ]
@@ -83,13 +78,13 @@ pub apart-from_rises : (es : List Extent) (index : List ℕ) → IsIndex es inde
 apart-from_rises es index h rises i j d b l =
     let ib : i < length es = omega arith in
     let other : i ≢ j = omega arith in
-    rw (get_or_default es i d nothing ib, get_or_default es j d nothing l) (apart_at es index h rises i j other ib l)
+    rw (get_or_default es i d no_extent ib, get_or_default es j d no_extent l) (apart_at es index h rises i j other ib l)
 
 -- of two extents that are apart, in either order of their numbers
 either_way : (es : List Extent) → AllPairs AreApart es → (i j : ℕ) → i ≢ j → i < length es → j < length es → AreApart (extent_at es i) (extent_at es j)
 either_way es apart i j ne ib jb = elim (leb_tells i j) [
-  | inl x ↦ apart i j nothing (omega arith) jb
-  | inr y ↦ flip_apart (extent_at es j) (extent_at es i) (apart j i nothing (omega arith) ib)
+  | inl x ↦ apart i j no_extent (omega arith) jb
+  | inr y ↦ flip_apart (extent_at es j) (extent_at es i) (apart j i no_extent (omega arith) ib)
 ]
 
 pub rises-from_apart : (es : List Extent) (index : List ℕ) → IsIndex es index → All HasBytes es → AllPairs AreApart es → Rises es index (length index)
@@ -102,7 +97,7 @@ rises-from_apart es index h bytes apart k l =
     let up : start_of es a ≤ start_of es b = h.sorted k (k + 1) 0 (omega arith) l in
     elim (either_way es apart a b ne ab bb) [
       | inl x ↦ x
-      | inr y ↦ (let some = bytes b nothing bb in omega arith)
+      | inr y ↦ (let some = bytes b no_extent bb in omega arith)
     ]
 
 -- two neighbours of an index that are not apart
@@ -121,10 +116,10 @@ range_with_len-more n =
 -- one more extent that shares no byte with those before it
 pub apart-more : (es : List Extent) (j : ℕ) → j < length es → AllPairs AreApart (take j es) → ((k : ℕ) → k < j → AreApart (extent_at es k) (extent_at es j)) → AllPairs AreApart (take (j + 1) es)
 apart-more es j b before with_last =
-    rw (take_more es j nothing b)
+    rw (take_more es j no_extent b)
     (all_pairs_push AreApart (take j es) (extent_at es j) before
     (λ k d l.
     let n : length (take j es) ≡ j = length-take-le j es (omega arith) in
     let kj : k < j = omega arith in
     let inside : k < length es = omega arith in
-    rw (get_or-take j es k d kj, get_or_default es k d nothing inside) (with_last k kj)))
+    rw (get_or-take j es k d kj, get_or_default es k d no_extent inside) (with_last k kj)))

@@ -4,9 +4,13 @@ use Rattle.std.specs.List.{range_with_len}
 use Rattle.std.specs.List.Sorted.{IsPermutation, IsNonDecreasingBy}
 use Rattle.aff_model.specs.declared.extent.Extent.{Extent}
 
+-- an extent without bytes
+abbrev pub no_extent : Extent
+no_extent = record { at = 0; len = 0; priority = 0 }
+
 -- the extent of a number; past the end of the list, one without bytes
 abbrev pub extent_at : List Extent → ℕ → Extent
-extent_at extents k = slice_index_or extents k (record { at = 0; len = 0; priority = 0 })
+extent_at extents k = slice_index_or extents k no_extent
 
 -- its first byte
 abbrev pub start_of : List Extent → ℕ → ℕ

@@ -1,5 +1,5 @@
 -- Which histories a plan may have.
-use Rattle.std.specs.Prelude.{◌≡◌, ◌≢◌, ℕ, ◌+◌, ◌*◌, ◌/◌, ◌<◌, ◌≤◌, ◌⊎◌, List, [], ◌∷◌, ◌++◌, length, map, nat_eq, Option, IfSome, IsTrue, All, Contains, slice_index, slice_index_or, MatchOption, slice_get}
+use Rattle.std.specs.Prelude.{◌≡◌, ℕ, ◌+◌, ◌*◌, ◌/◌, ◌<◌, ◌≤◌, ◌⊎◌, List, [], ◌∷◌, length, map, nat_eq, Option, IfSome, IsTrue, All, Contains, slice_index, slice_index_or, MatchOption, slice_get}
 use Rattle.std.specs.List.Sorted.{IsStrictlyIncreasing}
 use Rattle.std.specs.List.{IsDistinct, flat_map}
 use Rattle.aff_model.specs.declared.extent.Extent.{Extent}

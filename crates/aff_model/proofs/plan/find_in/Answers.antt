@@ -1,4 +1,4 @@
-use Rattle.std.proofs.Common.{rules, arith, leb, sym, ◌≡◌, ◌-◌, true, length, get_or, ◌<◌, ◌≤◌, ℕ}
+use Rattle.std.proofs.Common.{rules, arith, leb, sym, ◌≡◌, ◌-◌, true, length, get_or, ◌<◌}
 use Rattle.std.proofs.lemmas.List.Sorted.{IsPartitionedBy-leb, IsPartitionPoint-from_clause}
 use Rattle.aff_model.specs.Index.{start_of, extent_at}
 use Rattle.aff_model.specs.Plan.{has_place}

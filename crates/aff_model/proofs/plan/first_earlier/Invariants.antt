@@ -1,4 +1,4 @@
-use Rattle.std.proofs.Common.{◌≡◌, ℕ, ◌<◌, take}
+use Rattle.std.proofs.Common.{ℕ, ◌<◌}
 use Rattle.aff_model.specs.Index.{extent_at}
 use Rattle.aff_model.specs.Plan.{AreApart}
 use Rattle.aff_model.proofs.plan.first_earlier.Given as goal

@@ -1,4 +1,4 @@
-use Rattle.std.proofs.Common.{arith, inl, inr, ◌<◌, ◌+◌, ◌≡◌, length}
+use Rattle.std.proofs.Common.{arith, inl, inr, ◌+◌, ◌≡◌, length}
 use Rattle.std.proofs.lemmas.Bool.Decides.{leb_tells}
 use Rattle.std.proofs.lemmas.List.{take_all}
 use Rattle.aff_model.proofs.plan.first_later.Goals as goal

@@ -1,4 +1,3 @@
-use Rattle.std.proofs.Common.{rules}
 use Rattle.aff_model.proofs.Faults.{each_from_fits, has_bytes}
 use Rattle.aff_model.proofs.plan.index_of_plan.Goals as goal
 

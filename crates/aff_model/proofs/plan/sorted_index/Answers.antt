@@ -1,6 +1,5 @@
-use Rattle.std.proofs.Common.{rules, subst, List, ℕ}
+use Rattle.std.proofs.Common.{rules}
 use Rattle.std.proofs.lemmas.List.Sorted.{IsNonDecreasingBy-from_sort_by_key}
-use Rattle.std.specs.List.Sorted.{IsPermutation}
 use Rattle.aff_model.specs.Index.{start_of}
 use Rattle.aff_model.proofs.plan.sorted_index.Goals as goal
 

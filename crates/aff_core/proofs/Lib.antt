@@ -1,0 +1,5 @@
+pub mod EventLaws
+pub mod EventLists
+pub mod Kept
+pub mod KindLists
+pub mod RunLists
