@@ -6,5 +6,7 @@
 
 mod extent;
 mod part;
+#[cfg(test)]
+mod tests;
 
 pub use extent::{read_extent, reserve_bad};
