@@ -1,13 +1,9 @@
 -- A part of an extent that was read around what cannot be read: as a whole, a single sector, and from two parts.
-use Rattle.std.proofs.Common.{◌≡◌, ℕ, zero, suc, ◌+◌, ◌-◌, ◌*◌, ◌/◌, ◌%◌, ◌^◌, ◌<◌, ◌≤◌, ◌⊎◌, inl, inr, min, List, [], ◌∷◌, ◌++◌, length, get_or, replicate, refl, sym, ap, ◌∙◌, subst, IsTrue, arith, length-append}
-use Rattle.std.proofs.lemmas.Bool.{cases_lt}
-use Rattle.std.proofs.lemmas.List.{get_or_append_left, get_or-append_right, get_or-replicate}
-use Rattle.std.proofs.lemmas.List.Elements.{Contains-append_left, Contains-append_right, Contains-append_cases}
+use Rattle.std.proofs.Common.{◌≡◌, ℕ, ◌+◌, ◌*◌, ◌/◌, ◌%◌, List, [], ◌∷◌, length, get_or, replicate, refl, sym, ap, ◌∙◌, subst, IsTrue, arith}
+use Rattle.std.proofs.lemmas.List.{get_or-replicate}
 use Rattle.std.specs.Prelude.{Option, None, Some, IfSome, Contains}
-use Rattle.std.specs.List.Sorted.{IsStrictlyIncreasing}
 use Rattle.aff_model.specs.Content.{Content, IsRead, Touches}
-use Rattle.aff_outside.specs.Seen.{IsZeroSector}
-use Rattle.aff_device.specs.Around.{RoseBy, IsToldPart, IsPart}
+use Rattle.aff_device.specs.Around.{IsToldPart, IsPart}
 
 none_in_empty : (s : ℕ) → Contains {X = ℕ} [] s → ⊥
 none_in_empty s h = absurd (omega (arith, h.1))

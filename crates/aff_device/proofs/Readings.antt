@@ -1,10 +1,10 @@
 -- What a part is after it was read, by how its reading went.
-use Rattle.std.proofs.Common.{◌≡◌, ℕ, ◌+◌, ◌*◌, ◌/◌, ◌%◌, ◌^◌, ◌≤◌, min, List, [], ◌∷◌, ◌++◌, length, replicate, refl, sym, ap, ◌∙◌, subst, arith, append_assoc}
+use Rattle.std.proofs.Common.{◌≡◌, ℕ, ◌+◌, ◌*◌, ◌/◌, ◌%◌, ◌≤◌, List, [], ◌∷◌, ◌++◌, length, replicate, sym, ap, ◌∙◌, subst, arith, append_assoc}
 use Rattle.std.proofs.lemmas.List.{append-nil}
 use Rattle.std.specs.Prelude.{Option, IfSome}
 use Rattle.aff_model.specs.Content.{Content, IsRead, Touches}
 use Rattle.aff_device.specs.Around.{RoseBy, IsPart, IsPartRead}
-use Rattle.aff_device.proofs.Parts.{whole_part, sector_part, empty_part}
+use Rattle.aff_device.proofs.Parts.{whole_part, sector_part}
 use Rattle.aff_device.proofs.Halves.{both_parts, rose_both}
 
 pub whole_read : (content : Option Content) (start first at len : ℕ) (bytes old : List ℕ) (before now : ℕ) → at ≡ start + 512 * first → start % 512 ≡ 0 → len % 512 ≡ 0 → length bytes ≡ len

@@ -1,12 +1,11 @@
 -- A whole extent that was read as one part.
-use Rattle.std.proofs.Common.{◌≡◌, ℕ, ◌+◌, ◌*◌, ◌/◌, ◌<◌, ◌≤◌, List, [], ◌++◌, length, refl, sym, ap, ◌∙◌, subst, IsTrue, arith, zero-add}
+use Rattle.std.proofs.Common.{◌≡◌, ℕ, ◌+◌, ◌*◌, ◌/◌, ◌<◌, List, [], ◌++◌, length, sym, ap, ◌∙◌, subst, IsTrue, arith, zero-add}
 use Rattle.std.specs.Prelude.{Option, None, Some, IfSome, All, Contains}
 use Rattle.std.proofs.lemmas.List.Elements.{All-contains_itself}
-use Rattle.aff_model.specs.declared.extent.Extent.{Extent}
 use Rattle.aff_model.specs.Content.{Content}
 use Rattle.aff_model.specs.Legal.{Fits}
 use Rattle.aff_outside.specs.Seen.{IsZeroSector}
-use Rattle.aff_device.specs.Around.{RoseBy, IsKnown, IsToldPart, IsPart, IsPartRead}
+use Rattle.aff_device.specs.Around.{IsKnown, IsToldPart, IsPart, IsPartRead}
 
 -- what holds of each number that the list has
 each : (P : ℕ → Type 0) (bad : List ℕ) → ((s : ℕ) → Contains bad s → P s) → All P bad

@@ -1,5 +1,5 @@
 -- A device of given bytes, some of whose sectors fail at first.
-use Rattle.std.specs.Prelude.{ℕ, ◌-◌, Bool, true, false, ◌&&◌, nat_lt, nat_le, List, map, slice_index, T, if◌then◌else◌}
+use Rattle.std.specs.Prelude.{ℕ, ◌-◌, Bool, false, ◌&&◌, nat_lt, nat_le, List, map, slice_index, T, if◌then◌else◌}
 use Rattle.std.proofs.Common.{sym, subst}
 use Rattle.std.specs.List.{list_any}
 use Rattle.aff_model.specs.Content.{Content}

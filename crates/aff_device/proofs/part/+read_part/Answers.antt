@@ -1,4 +1,4 @@
-use Rattle.std.proofs.Common.{◌≡◌, ◌+◌, ◌*◌, ◌/◌, length, replicate, refl, sym, ap, ◌∙◌, arith}
+use Rattle.std.proofs.Common.{◌+◌, ◌*◌, ◌/◌, length, replicate, refl, sym, ap, ◌∙◌}
 use Rattle.aff_device.proofs.Readings.{whole_read, sector_read, both_read}
 use Rattle.aff_device.proofs.part.+read_part.Goals as goal
 

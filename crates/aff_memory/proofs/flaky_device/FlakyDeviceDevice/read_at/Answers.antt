@@ -1,5 +1,5 @@
 use Rattle.std.proofs.Common.{◌≡◌, ◌+◌, ◌/◌, length, ap, sym, ◌∙◌}
-use Rattle.aff_memory.specs.Flaked.{still_fails, worn}
+use Rattle.aff_memory.specs.Flaked.{still_fails}
 use Rattle.aff_memory.proofs.Sectors.{touched}
 use Rattle.aff_memory.proofs.Worn.{content_kept, listed, worn_items}
 use Rattle.aff_memory.proofs.flaky_device.FlakyDeviceDevice.read_at.Goals as goal
