@@ -6,6 +6,9 @@ mod entry;
 mod error;
 mod point;
 
-pub use entry::Entry;
+pub use entry::{Entry, read_entries, read_entry, write_entries, write_entry};
 pub use error::FieldsError;
-pub use point::Point;
+pub use point::{Point, read_point, read_points, write_point, write_points};
+
+#[cfg(test)]
+mod tests;

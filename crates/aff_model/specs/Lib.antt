@@ -1,8 +1,10 @@
 pub mod Causes
 pub mod Cells
 pub mod Content
+pub mod Faults
 pub mod Held
 pub mod History
+pub mod Index
 pub mod Legal
 pub mod Plan
 pub mod Shown

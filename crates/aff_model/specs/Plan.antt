@@ -21,6 +21,11 @@ pub record IsPlan (size : ℕ) (extents : List Extent) : Type 0 where
   pub few : length extents ≤ 65536
   pub apart : AllPairs AreApart extents
 
+-- a plan as a caller sees it: its extents by number, and the device's size
+pub record Planned : Type 0 where
+  pub extents : List Extent
+  pub size : ℕ
+
 -- the extent has the place
 abbrev pub has_place : ℕ → Extent → Bool
 has_place i e = nat_le e.at i && nat_lt i (e.at + e.len)

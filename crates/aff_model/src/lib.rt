@@ -7,6 +7,7 @@ mod cell;
 mod extent;
 mod limits;
 mod piece;
+mod plan;
 mod publication;
 
 pub use case::{Case, Named, Untold};
@@ -17,4 +18,5 @@ pub use limits::{
     MAX_RUNS, MAX_SESSIONS, MAX_SIZE, MAX_TEXT, SECTOR, TURNS,
 };
 pub use piece::Piece;
+pub use plan::{Plan, PlanFault};
 pub use publication::{Place, Publication};

@@ -20,7 +20,9 @@ pub const MAX_SIZE: u64 = 17_592_186_044_416;
 
 /// The most devices, sessions and examiners of a run.
 pub const MAX_DEVICES: usize = 16;
+
 pub const MAX_SESSIONS: usize = 16;
+
 pub const MAX_EXAMINERS: usize = 16;
 
 /// The most requests of a session.

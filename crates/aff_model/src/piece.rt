@@ -20,12 +20,12 @@ impl<R: Drop> Model for Piece<R> {
     ghost Value = { Part R };
 
     ghost view = { λ p. record {
-        extent = p.extent;
-        claimant = p.claimant;
-        swept = p.swept;
-        bad = p.bad.items;
-        places = p.places.items;
-        digests = p.digests.items;
-        receipts = p.receipts.items;
+      extent = p.extent;
+      claimant = p.claimant;
+      swept = p.swept;
+      bad = p.bad.items;
+      places = p.places.items;
+      digests = p.digests.items;
+      receipts = p.receipts.items;
     } };
 }

@@ -1,0 +1,6 @@
+pub mod Lookup
+pub mod Below
+pub mod Adding
+pub mod Sectors
+pub mod InOrder
+pub mod Spots

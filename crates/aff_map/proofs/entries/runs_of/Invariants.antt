@@ -1,0 +1,7 @@
+use Rattle.std.proofs.Common.{map}
+use Rattle.aff_map.specs.Mappable.{published}
+use Rattle.aff_map.proofs.Spots.{IsMapOf}
+use Rattle.aff_map.proofs.entries.runs_of.Given as goal
+
+abbrev pub invariant-loop-turn : goal.invariant-loop-turn
+invariant-loop-turn g l = IsMapOf l.plan.extents (map published l.pieces) l.turn-items l.turn-index l.entries.items

@@ -1,0 +1,4 @@
+pub mod Building
+pub mod Mappable
+pub mod Symbol
+pub mod Turns

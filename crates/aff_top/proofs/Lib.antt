@@ -1,0 +1,4 @@
+pub mod Digits
+pub mod FourWords
+pub mod Places
+pub mod PlanTexts

@@ -1,0 +1,15 @@
+//! The top call: what the words of a command line ask for, over what is handed in.
+#![tactic(auto)]
+
+mod chunk;
+mod extents;
+mod fault;
+mod line;
+mod plan;
+mod report;
+mod segments;
+mod source;
+mod wanted;
+mod words;
+
+pub use wanted::Outside;
