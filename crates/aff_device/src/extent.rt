@@ -37,6 +37,7 @@ pub fn read_extent(device: &mut dyn Device, at: u64, buf: &mut [u8], bad: &mut V
     ensures content { device_content device.new ≡ device_content device.old }
     ensures size { device_size device.new ≡ device_size device.old }
 {
+    // The size is a `u64`, and so is the end of each part.
     let _size = device.size();
     read_part(device, at, 0, buf, bad);
 }
