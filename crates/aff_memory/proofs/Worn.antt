@@ -3,7 +3,6 @@ use Rattle.std.proofs.Common.{◌≡◌, ℕ, ◌+◌, ◌<◌, ◌&&◌, ◌||�
 use Rattle.std.proofs.lemmas.List.{map-append, length-map, length-take-le}
 use Rattle.std.proofs.Math.Seq.{take-suc, get_or-append_seam, set-append_seam}
 use Rattle.std.proofs.lemmas.Grind.{common_steps}
-use Rattle.std.specs.Prelude.{Some}
 use Rattle.std.specs.List.{list_any}
 use Rattle.aff_memory.specs.declared.flaky.Flaky.{Flaky}
 use Rattle.aff_memory.specs.Flaked.{weak_content, sectors_of, in_range, still_fails, worn}
@@ -35,9 +34,9 @@ one_more F xs now i d y h is change =
     ∙ ap (λ t. t ++ drop (i + 1) xs) (sym front)
 
 -- what the device tells does not change
-pub content_kept : (first end : ℕ) (bytes same : List ℕ) (old new : List Flaky) → bytes ≡ same → new ≡ map (worn first end) old → Some (weak_content bytes (sectors_of new)) ≡ Some (weak_content same (sectors_of old))
+pub content_kept : (first end : ℕ) (bytes same : List ℕ) (old new : List Flaky) → bytes ≡ same → new ≡ map (worn first end) old → weak_content bytes (sectors_of new) ≡ weak_content same (sectors_of old)
 content_kept first end bytes same old new e is =
-    ap (λ b. Some (weak_content b (sectors_of new))) e ∙ ap (λ s. Some (weak_content same s)) (ap sectors_of is ∙ sectors_worn first end old)
+    ap (λ b. weak_content b (sectors_of new)) e ∙ ap (weak_content same) (ap sectors_of is ∙ sectors_worn first end old)
 
 -- a buffer that was written whole
 written_whole : (old new : List Flaky) (n : ℕ) → length old ≡ n → length new ≡ length old → take n (new ++ drop (length new) old) ≡ new

@@ -1,5 +1,5 @@
 //! A device of given bytes, some of whose sectors fail at first.
-ghost use Rattle.std.specs.Prelude.{◌≡◌, ◌↔◌, ◌+◌, ◌≤◌, ◌/◌, ◌%◌, length, map, Some, IfSome, IsErr, IsTrue, OnOk, OnErr};
+ghost use Rattle.std.specs.Prelude.{◌≡◌, ◌↔◌, ◌+◌, ◌≤◌, ◌/◌, ◌%◌, length, map, Some, IsErr, IsTrue, OnOk, OnErr};
 ghost use Rattle.aff_model.specs.Causes.{HasCause};
 ghost use Rattle.aff_model.specs.Content.{IsRead, Touches};
 ghost use Rattle.aff_memory.specs.Flaked.{flaky_content, still_fails, worn};
@@ -68,10 +68,9 @@ impl Device for FlakyDevice {
         requires whole { at % 512 ≡ 0 }
         requires whole_len { length out.old % 512 ≡ 0 }
         requires inside { at + length out.old ≤ length self.old.bytes }
-        ensures bytes { OnOk result (IfSome (Some (flaky_content self.old)) (λ c. IsRead c at out.new)) }
-        ensures good { OnOk result (IfSome (Some (flaky_content self.old)) (λ c. ¬ (Touches c.bad at (length out.old)))) }
-        ensures weak { OnErr result (IfSome (Some (flaky_content self.old)) (λ c. Touches c.weak at (length out.old))) }
-        ensures content { Some (flaky_content self.new) ≡ Some (flaky_content self.old) }
+        ensures bytes { OnOk result (IsRead (flaky_content self.old) at out.new) }
+        ensures weak { OnErr result (Touches (flaky_content self.old).weak at (length out.old)) }
+        ensures content { flaky_content self.new ≡ flaky_content self.old }
         ensures size { length self.new.bytes ≡ length self.old.bytes }
         ensures cause { HasCause self.old.faults self.new.faults (IsErr result) }
         ensures failed { IsErr result ↔ IsTrue (still_fails (at / 512) ((at + length out.old) / 512) self.old.flaky) }
