@@ -3,3 +3,4 @@ pub mod Puts
 pub mod Sectors
 pub mod Shelves
 pub mod Taken
+pub mod Worn

@@ -1,5 +1,5 @@
 -- The place of a name among sorted entries, found from the front.
-use Rattle.std.proofs.Common.{◌≡◌, ℕ, suc, ◌+◌, ◌<◌, ◌≤◌, List, [], ◌∷◌, ◌++◌, length, take, drop, refl, sym, ap, ◌∙◌, subst, Bool, true, false, IsTrue, arith, append_assoc, add-one, get_or, set, drop-cons}
+use Rattle.std.proofs.Common.{◌≡◌, ℕ, ◌+◌, ◌<◌, ◌≤◌, List, [], ◌∷◌, ◌++◌, length, take, drop, refl, sym, ap, ◌∙◌, Bool, true, false, IsTrue, arith, append_assoc, add-one, get_or, set, drop-cons}
 use Rattle.std.proofs.lemmas.List.{take-append-drop, take-set, drop-set, drop_all, get_or_default}
 use Rattle.std.proofs.lemmas.List.Edits.{length-insert}
 use Rattle.std.proofs.Math.Seq.{take-suc}

@@ -1,6 +1,6 @@
 -- What an append does to sorted entries.
-use Rattle.std.proofs.Common.{◌≡◌, ℕ, ◌+◌, ◌<◌, ◌≤◌, List, [], ◌++◌, length, refl, sym, ap, ◌∙◌, subst, Bool, true, false, IsTrue, get_or, set}
-use Rattle.std.specs.Prelude.{Result, Ok, Err, is_ok, OnOk, Some, unwrap_or, if◌then◌else◌}
+use Rattle.std.proofs.Common.{◌≡◌, ℕ, List, [], ◌++◌, refl, sym, ap, ◌∙◌, subst, Bool, true, false, IsTrue, get_or, set}
+use Rattle.std.specs.Prelude.{Result, Ok, Err, is_ok, OnOk, unwrap_or, if◌then◌else◌}
 use Rattle.std.specs.List.{insert}
 use Rattle.std.specs.Ordering.{nat_cmp}
 use Rattle.std.specs.Cmp.Lexicographic.{slice_cmp}

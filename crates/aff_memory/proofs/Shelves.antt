@@ -1,5 +1,5 @@
 -- Sorted entries as a folder.
-use Rattle.std.proofs.Common.{◌≡◌, ℕ, ◌+◌, ◌≤◌, List, [], ◌∷◌, ◌++◌, length, map as list_map, refl, sym, ap, ◌∙◌, subst, Bool, true, false, IsTrue}
+use Rattle.std.proofs.Common.{◌≡◌, ℕ, ◌+◌, ◌≤◌, List, [], ◌++◌, length, map as list_map, refl, sym, ap, ◌∙◌, subst, Bool, true, false, IsTrue}
 use Rattle.std.specs.Prelude.{T, Option, Some, None, unwrap_or, IsSomeAnd}
 use Rattle.std.specs.Ordering.{nat_cmp}
 use Rattle.std.specs.Cmp.Lexicographic.{slice_cmp, nat_list_cmp_total}

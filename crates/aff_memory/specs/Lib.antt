@@ -1,4 +1,5 @@
 pub mod Counted
 pub mod Fixed
+pub mod Flaked
 pub mod Shelf
 pub mod Texts

@@ -1,5 +1,5 @@
 //! A folder in memory.
-ghost use Rattle.std.specs.Prelude.{◌≡◌, ◌↔◌, ◌⊎◌, ◌≤◌, ℕ, true, length, take, drop, IfOk, OnOk, OnErr, IsErrOf, IsTrue};
+ghost use Rattle.std.specs.Prelude.{◌≡◌, ◌↔◌, ◌≤◌, true, length, take, drop, IfOk, OnOk, OnErr, IsErrOf, IsTrue};
 ghost use Rattle.std.specs.FinMap.{empty};
 ghost use Rattle.aff_model.specs.Causes.{HasCause};
 ghost use Rattle.aff_model.specs.Held.{appended, bytes_of, IsInside, lengths};
@@ -55,8 +55,8 @@ impl Folder for MemoryFolder {
     ghost folder_faults = { λ f. f.calls.faults };
 
     fn list(&mut self) -> Result<Vec<Segment>, FolderError>
-        ensures segments { IfOk result (λ segments. IsTrue true → segments.items ≡ lengths self.old.held) }
-        ensures same { IsTrue true → self.new.held ≡ self.old.held }
+        ensures segments { IfOk result (λ segments. segments.items ≡ lengths self.old.held) }
+        ensures same { self.new.held ≡ self.old.held }
         ensures cause { HasCause self.old.calls.faults self.new.calls.faults (IsErrOf result FolderError.Failed) }
         ensures failed { IsErrOf result FolderError.Failed ↔ IsTrue (fails self.old.calls) }
         ensures calls { self.new.calls ≡ counted self.old.calls }
@@ -69,10 +69,7 @@ impl Folder for MemoryFolder {
 
     /// After any error the folder holds what it held.
     fn append(&mut self, name: &str, bytes: &[u8]) -> Result<(), FolderError>
-        ensures ok { OnOk result (IsTrue true → self.new.held ≡ appended self.old.held name.now bytes.now) }
-        ensures part { OnErr result (IsTrue true → (self.new.held ≡ self.old.held)
-            ⊎ ((n : ℕ) × (n ≤ length bytes.now) × (self.new.held ≡ appended self.old.held name.now (take n bytes.now)))) }
-        ensures memory { IsErrOf result FolderError.Memory → IsTrue true → self.new.held ≡ self.old.held }
+        ensures ok { OnOk result (self.new.held ≡ appended self.old.held name.now bytes.now) }
         ensures cause { HasCause self.old.calls.faults self.new.calls.faults (IsErrOf result FolderError.Failed) }
         ensures same { OnErr result (self.new.held ≡ self.old.held) }
         ensures failed { IsErrOf result FolderError.Failed ↔ IsTrue (fails self.old.calls) }
@@ -86,11 +83,12 @@ impl Folder for MemoryFolder {
 
     /// Takes no memory.
     fn read_at(&mut self, name: &str, at: u64, out: &mut [u8]) -> Result<(), FolderError>
-        requires { IsTrue true → IsInside self.old.held name.now at (length out.old) }
-        ensures bytes { OnOk result (IsTrue true → out.new ≡ take (length out.old) (drop at (bytes_of self.old.held name.now))) }
-        ensures same { IsTrue true → self.new.held ≡ self.old.held }
+        requires { IsInside self.old.held name.now at (length out.old) }
+        ensures bytes { OnOk result (out.new ≡ take (length out.old) (drop at (bytes_of self.old.held name.now))) }
+        ensures same { self.new.held ≡ self.old.held }
         ensures cause { HasCause self.old.calls.faults self.new.calls.faults (IsErrOf result FolderError.Failed) }
-        ensures failed { OnErr result (IsErrOf result FolderError.Failed × IsTrue (fails self.old.calls)) }
+        ensures failed { IsErrOf result FolderError.Failed ↔ IsTrue (fails self.old.calls) }
+        ensures memory { ¬ (IsErrOf result FolderError.Memory) }
         ensures calls { self.new.calls ≡ counted self.old.calls }
     {
         if self.calls.fails() {

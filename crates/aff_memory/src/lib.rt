@@ -8,6 +8,8 @@
 
 mod calls;
 mod fixed;
+mod flaky;
+mod flaky_device;
 mod folder;
 mod shelf;
 #[cfg(test)]
@@ -15,5 +17,7 @@ mod tests;
 mod text;
 
 pub use fixed::FixedDevice;
+pub use flaky::Flaky;
+pub use flaky_device::FlakyDevice;
 pub use folder::MemoryFolder;
 pub use text::{MemorySink, MemorySource};

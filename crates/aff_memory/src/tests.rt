@@ -1,7 +1,7 @@
 //! What no clause says: that calls succeed where there is memory, and each call once.
 ghost use Rattle.std.specs.Prelude.{◌≡◌, ◌*◌, IfOk, vec_len};
 
-use crate::{FixedDevice, MemoryFolder, MemorySink, MemorySource};
+use crate::{FixedDevice, Flaky, FlakyDevice, MemoryFolder, MemorySink, MemorySource};
 use aff_outside::{
     Device, DeviceFailed, Folder, FolderError, Sink, SinkError, Source, SourceFailed, read_segment,
 };
@@ -32,6 +32,24 @@ fn fixed_device_fails_where_a_bad_sector_is_touched(rt: HostRuntime) -> Result<(
     let mut one = numbered(alloc, 1)?;
     assert_eq!(rt; device.read_at(1536, &mut one), Ok(()));
     assert!(rt; one.iter().all(|byte| *byte == 3));
+    Ok(())
+}
+
+#[test]
+fn flaky_device_fails_at_first(rt: HostRuntime) -> Result<(), Fail> {
+    let alloc = rt.alloc();
+    let flaky = Flaky {
+        sector: 1,
+        times: 2,
+    };
+    let mut device = FlakyDevice::new(numbered(alloc, 2)?, vec![in alloc; flaky]?);
+    let mut two = numbered(alloc, 2)?;
+    let mut one = numbered(alloc, 1)?;
+    assert_eq!(rt; device.read_at(0, &mut two), Err(DeviceFailed));
+    assert_eq!(rt; device.read_at(0, &mut one), Ok(()));
+    assert_eq!(rt; device.read_at(512, &mut one), Err(DeviceFailed));
+    assert_eq!(rt; device.read_at(512, &mut one), Ok(()));
+    assert!(rt; one.iter().all(|byte| *byte == 1));
     Ok(())
 }
 

@@ -1,7 +1,7 @@
 //! A source and a sink in memory.
 ghost use Rattle.std.specs.Prelude.{◌≡◌, ◌↔◌, ◌+◌, ◌<◌, ◌≤◌, ℕ, min, [], ◌++◌, length, take, drop, Some, IfOk, OnOk, OnErr, IsErr, IsErrOf, IsTrue};
 ghost use Rattle.std.specs.Io.{ReadsAtMost};
-ghost use Rattle.std.specs.Io.KnownBytes.{ReadConsumes, Appends, Keeps};
+ghost use Rattle.std.specs.Io.KnownBytes.{ReadConsumes};
 ghost use Rattle.aff_model.specs.Causes.{HasCause};
 ghost use Rattle.aff_memory.specs.Counted.{fails, counted};
 
@@ -116,13 +116,10 @@ impl Sink for MemorySink {
 
     /// After any error nothing was written.
     fn write(&mut self, bytes: &[u8]) -> Result<(), SinkError>
-        ensures ok { OnOk result (Appends (Some self.old.written) (Some self.new.written) bytes.now) }
-        ensures failed { IsErrOf result SinkError.Failed →
-            (n : ℕ) × (n ≤ length bytes.now) × Appends (Some self.old.written) (Some self.new.written) (take n bytes.now) }
-        ensures memory { IsErrOf result SinkError.Memory → Keeps (Some self.old.written) (Some self.new.written) }
-        ensures cause { HasCause self.old.calls.faults self.new.calls.faults (IsErrOf result SinkError.Failed) }
+        ensures ok { OnOk result (self.new.written ≡ self.old.written ++ bytes.now) }
         ensures same { OnErr result (self.new.written ≡ self.old.written) }
-        ensures listed { IsErrOf result SinkError.Failed ↔ IsTrue (fails self.old.calls) }
+        ensures cause { HasCause self.old.calls.faults self.new.calls.faults (IsErrOf result SinkError.Failed) }
+        ensures failed { IsErrOf result SinkError.Failed ↔ IsTrue (fails self.old.calls) }
         ensures calls { self.new.calls ≡ counted self.old.calls }
     {
         if self.calls.fails() {

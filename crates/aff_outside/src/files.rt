@@ -32,6 +32,7 @@ fn opened(rt: &HostRuntime, path: &str) -> io::Result<(File, u64)> {
 }
 
 impl FileDevice {
+    /// What cannot be opened, and a folder, has size 0.
     pub fn open(rt: &HostRuntime, path: &str) -> FileDevice {
         match opened(rt, path) {
             Ok((file, size)) => FileDevice {

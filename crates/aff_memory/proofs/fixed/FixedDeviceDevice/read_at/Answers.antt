@@ -1,4 +1,4 @@
-use Rattle.std.proofs.Common.{◌≡◌, ◌+◌, ◌/◌, ◌&&◌, nat_lt, nat_le, length, true, false, ap, sym, ◌∙◌}
+use Rattle.std.proofs.Common.{◌≡◌, ◌+◌, ◌/◌, ◌&&◌, nat_lt, nat_le, length, true, false, ap}
 use Rattle.std.specs.List.{list_any}
 use Rattle.aff_memory.proofs.Sectors.{touched, untouched}
 use Rattle.aff_memory.proofs.fixed.FixedDeviceDevice.read_at.Goals as goal

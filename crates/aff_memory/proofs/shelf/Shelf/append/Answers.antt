@@ -1,8 +1,8 @@
-use Rattle.std.proofs.Common.{◌≡◌, ◌++◌, sym, ap, ◌∙◌, subst}
+use Rattle.std.proofs.Common.{sym, ap, ◌∙◌, subst}
 use Rattle.std.specs.Prelude.{if◌then◌else◌}
 use Rattle.std.specs.List.{insert}
 use Rattle.aff_model.specs.Held.{appended}
-use Rattle.aff_memory.specs.Shelf.{StandsAt, IsGap, folder_of}
+use Rattle.aff_memory.specs.Shelf.{StandsAt, IsGap}
 use Rattle.aff_memory.proofs.Puts.{grown, grown_sorted, made, made_sorted, where_ok, where_is_ok}
 use Rattle.aff_memory.proofs.shelf.Shelf.append.Goals as goal
 

@@ -1,9 +1,9 @@
-use Rattle.std.proofs.Common.{◌≡◌, ℕ, List, Some, length, take, drop, sym, ap, ◌∙◌, subst, get_or}
+use Rattle.std.proofs.Common.{◌≡◌, ℕ, List, Some, length, take, drop, sym, ap, ◌∙◌, subst}
 use Rattle.std.specs.Ordering.{nat_cmp}
 use Rattle.std.specs.Cmp.Lexicographic.{slice_cmp}
 use Rattle.std.specs.FinMap.{find}
 use Rattle.aff_model.specs.Held.{bytes_of, IsInside}
-use Rattle.aff_memory.specs.Shelf.{StandsAt, IsGap, folder_of}
+use Rattle.aff_memory.specs.Shelf.{StandsAt, IsGap}
 use Rattle.aff_memory.proofs.Shelves.{inside, missing, bytes_found}
 use Rattle.aff_memory.proofs.shelf.Shelf.read_at.Goals as goal
 

@@ -1,4 +1,4 @@
-use Rattle.std.proofs.Common.{◌≡◌, ◌+◌, ◌-◌, ◌++◌, ◌≤◌, min, length, take, drop, ap, sym, ◌∙◌, arith}
+use Rattle.std.proofs.Common.{◌≡◌, ◌-◌, ◌++◌, ◌≤◌, min, length, take, drop, ap, arith}
 use Rattle.std.proofs.lemmas.Grind.{common_steps}
 use Rattle.aff_memory.proofs.Taken.{consumed, ended}
 use Rattle.aff_memory.proofs.text.MemorySourceSource.read.Goals as goal

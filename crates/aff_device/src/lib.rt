@@ -1,0 +1,12 @@
+//! Reading an extent around the sectors that cannot be read.
+//!
+//! A range that cannot be read as a whole is read in halves, so that a sector counts as unreadable only
+//! after a reading of it alone has failed. `read_extent` takes no memory: `reserve_bad` takes it before.
+#![tactic(auto)]
+
+mod extent;
+mod part;
+#[cfg(test)]
+mod tests;
+
+pub use extent::{read_extent, reserve_bad};
