@@ -5,3 +5,4 @@ pub mod Sectors
 pub mod InOrder
 pub mod Spots
 pub mod Few
+pub mod Legal
