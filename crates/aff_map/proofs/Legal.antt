@@ -1,10 +1,9 @@
 -- A legal history has a map.
-use Rattle.std.proofs.Common.{◌≡◌, ℕ, zero, suc, ◌+◌, ◌<◌, ◌≤◌, ◌^◌, List, [], ◌∷◌, ◌++◌, length, get_or, refl, sym, ap, ◌∙◌, subst, arith}
+use Rattle.std.proofs.Common.{◌≡◌, ℕ, zero, suc, ◌<◌, ◌≤◌, ◌^◌, List, [], ◌∷◌, length, get_or, refl, sym, ◌∙◌, arith}
 use Rattle.std.specs.Prelude.{Option, Some, None, slice_get, slice_index, MatchOption}
-use Rattle.std.specs.List.{All, Contains, flat_map}
+use Rattle.std.specs.List.{All, Contains}
 use Rattle.std.proofs.lemmas.List.{get_or_default}
 use Rattle.std.proofs.lemmas.List.Elements.{All-cons, All-nil, Contains-append_left, Contains-append_right}
-use Rattle.std.proofs.lemmas.Option.{slice_get-get_or}
 use Rattle.aff_model.specs.declared.extent.Extent.{Extent}
 use Rattle.aff_model.specs.declared.publication.Place.{Place}
 use Rattle.aff_model.specs.declared.publication.Place.TheVariants.{Zero, Chunk, Nothing}
@@ -47,8 +46,8 @@ pub AreMappable-from_legal : (case : Option Content) (extents : List Extent) (wo
 AreMappable-from_legal case extents workers history legal few = record {
   once = legal.once;
   published = λ k d below.
-    let numbered : All IsNumbered (get_or history k d).places = numbered_places (get_or history k d).places (λ c inside.
+      let numbered : All IsNumbered (get_or history k d).places = numbered_places (get_or history k d).places (λ c inside.
       let low : c < length (chunk_numbers history) = below_count (chunk_numbers history) legal.numbered c (in_history history k d c below inside) in
       omega (arith, low, few)) in
-    mappable_in case (slice_get extents (get_or history k d).extent) (get_or history k d) numbered (legal.published k d below)
+      mappable_in case (slice_get extents (get_or history k d).extent) (get_or history k d) numbered (legal.published k d below);
 }
