@@ -1,0 +1,13 @@
+pub mod Acquired
+pub mod Appending
+pub mod Appends
+pub mod Chunks
+pub mod Histories
+pub mod Members
+pub mod Names
+pub mod Outcomes
+pub mod Readings
+pub mod Spots
+pub mod Storing
+pub mod Streams
+pub mod Volumes

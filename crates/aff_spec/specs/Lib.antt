@@ -1,2 +1,13 @@
+pub mod Acquired
+pub mod Appends
+pub mod Chunks
 pub mod Names
+pub mod Outcomes
+pub mod PlanText
+pub mod Reads
+pub mod Report
 pub mod Runs
+pub mod Streams
+pub mod Symbols
+pub mod Volumes
+pub mod Words

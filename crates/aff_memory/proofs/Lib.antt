@@ -1,0 +1,5 @@
+pub mod Places
+pub mod Puts
+pub mod Sectors
+pub mod Shelves
+pub mod Taken

@@ -1,0 +1,4 @@
+pub mod Counted
+pub mod Fixed
+pub mod Shelf
+pub mod Texts

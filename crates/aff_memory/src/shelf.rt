@@ -1,0 +1,164 @@
+//! Segments in memory, sorted by name.
+ghost use Rattle.std.specs.Prelude.{◌≡◌, ◌+◌, ◌≤◌, ◌++◌, length, map as list_map, take, drop, IfOk, IfErr, OnOk, OnErr, IsTrue};
+ghost use Rattle.std.specs.Ordering.{nat_cmp};
+ghost use Rattle.std.specs.Cmp.Lexicographic.{slice_cmp};
+ghost use Rattle.std.specs.FinMap as map;
+ghost use Rattle.aff_model.specs.Held.{appended, bytes_of, IsInside, lengths};
+ghost use Rattle.aff_memory.specs.Shelf.{StandsAt, IsGap};
+
+use aff_outside::Segment;
+use std::alloc::{AllocError, Global};
+use std::cmp::Ordering;
+use std::marker::Model;
+
+/// A segment with its bytes.
+#[derive(Drop)]
+pub struct Kept {
+    name: String,
+    bytes: Vec<u8>,
+}
+
+impl Model for Kept {
+    ghost use Rattle.std.specs.Prelude.{List, ℕ};
+    ghost use Rattle.std.specs.String.{string_bytes};
+
+    ghost Value = { List ℕ × List ℕ };
+
+    ghost view = { λ k. (string_bytes k.name, k.bytes.items) };
+}
+
+impl Kept {
+    fn new(alloc: Global, name: &str, bytes: &[u8]) -> Result<Kept, AllocError>
+        ensures { IfOk result (λ kept. kept ≡ (name.now, bytes.now)) }
+    {
+        Ok(Kept {
+            name: String::from_str(alloc, name)?,
+            bytes: bytes.to_vec(alloc)?,
+        })
+    }
+
+    /// How a name stands to this segment's.
+    fn compare(&self, name: &str) -> Ordering
+        ensures { result ≡ slice_cmp nat_cmp name.now self.now.0 }
+    {
+        name.cmp(&self.name.as_str())
+    }
+
+    fn grow(&mut self, bytes: &[u8]) -> Result<(), AllocError>
+        ensures ok { OnOk result (self.new ≡ (self.old.0, self.old.1 ++ bytes.now)) }
+        ensures err { OnErr result (self.new ≡ self.old) }
+        ensures key { self.new.0 ≡ self.old.0 }
+    {
+        self.bytes.extend_from_slice(bytes)
+    }
+
+    /// Copies a part of the bytes.
+    fn copy(&self, at: u64, out: &mut [u8])
+        requires { at + length out.old ≤ length self.now.1 }
+        ensures { out.new ≡ take (length out.old) (drop at self.now.1) }
+    {
+        let rest = &self.bytes.as_slice()[at as usize..];
+        let count = out.len();
+        out.copy_from_slice(&rest[..count]);
+    }
+
+    fn segment(&self, alloc: Global) -> Result<Segment, AllocError>
+        ensures { IfOk result (λ segment. segment ≡ (self.now.0, length self.now.1)) }
+    {
+        Ok(Segment {
+            name: self.name.clone()?,
+            len: self.bytes.len() as u64,
+        })
+    }
+}
+
+/// The place of a name among sorted segments, or the place where it is missing.
+fn place_of(kept: &[Kept], name: &str) -> Result<usize, usize>
+    requires { IsTrue (map.is_sorted (slice_cmp nat_cmp) kept.now) }
+    ensures found { IfOk result (StandsAt kept.now name.now) }
+    ensures missing { IfErr result (IsGap kept.now name.now) }
+{
+    for (i, one) in kept.iter().enumerate() {
+        match one.compare(name) {
+            Ordering::Less => return Err(i),
+            Ordering::Equal => return Ok(i),
+            Ordering::Greater => {}
+        }
+    }
+    Err(kept.len())
+}
+
+/// Each segment's name and length, in order.
+fn list_of(alloc: Global, kept: &[Kept]) -> Result<Vec<Segment>, AllocError>
+    ensures { IfOk result (λ segments. segments.items ≡ list_map (λ e. (e.0, length e.1)) kept.now) }
+{
+    let mut segments = Vec::new(alloc);
+    for one in kept {
+        segments.push(one.segment(alloc)?)?;
+    }
+    Ok(segments)
+}
+
+/// Segments, seen as the map from their names to their bytes.
+#[derive(Drop)]
+pub struct Shelf {
+    alloc: Global,
+    kept: Vec<Kept>,
+}
+
+impl Model for Shelf {
+    ghost use Rattle.std.specs.Prelude.{IsTrue};
+    ghost use Rattle.std.specs.Ordering.{nat_cmp};
+    ghost use Rattle.std.specs.Cmp.Lexicographic.{slice_cmp};
+    ghost use Rattle.std.specs.FinMap as map;
+    ghost use Rattle.aff_model.specs.Held.{Held};
+    ghost use Rattle.aff_memory.specs.Shelf.{held_code, folder_of};
+
+    ghost Value = { Held };
+
+    ghost coded = { held_code };
+
+    ghost view = { λ s. folder_of s.kept.items };
+
+    ghost invariant = { λ s. IsTrue (map.is_sorted (slice_cmp nat_cmp) s.kept.items) };
+}
+
+impl Shelf {
+    pub fn new(alloc: Global) -> Shelf
+        ensures { result ≡ map.empty }
+    {
+        Shelf {
+            alloc,
+            kept: Vec::new(alloc),
+        }
+    }
+
+    pub fn append(&mut self, name: &str, bytes: &[u8]) -> Result<(), AllocError>
+        ensures ok { OnOk result (self.new ≡ appended self.old name.now bytes.now) }
+        ensures err { OnErr result (self.new ≡ self.old) }
+    {
+        match place_of(&self.kept, name) {
+            Ok(i) => self.kept[i].grow(bytes),
+            Err(i) => {
+                let one = Kept::new(self.alloc, name, bytes)?;
+                self.kept.insert(i, one).map_err(AllocError::from)
+            }
+        }
+    }
+
+    pub fn read_at(&self, name: &str, at: u64, out: &mut [u8])
+        requires { IsInside self.now name.now at (length out.old) }
+        ensures { out.new ≡ take (length out.old) (drop at (bytes_of self.now name.now)) }
+    {
+        match place_of(&self.kept, name) {
+            Ok(i) => self.kept[i].copy(at, out),
+            Err(_) => unreachable!(),
+        }
+    }
+
+    pub fn list(&self) -> Result<Vec<Segment>, AllocError>
+        ensures { IfOk result (λ segments. segments.items ≡ lengths self.now) }
+    {
+        list_of(self.alloc, &self.kept)
+    }
+}

@@ -1,0 +1,96 @@
+//! What no clause says: that calls succeed where there is memory, and each call once.
+ghost use Rattle.std.specs.Prelude.{◌≡◌, ◌*◌, IfOk, vec_len};
+
+use crate::{FixedDevice, MemoryFolder, MemorySink, MemorySource};
+use aff_outside::{
+    Device, DeviceFailed, Folder, FolderError, Sink, SinkError, Source, SourceFailed, read_segment,
+};
+use std::alloc::{AllocError, Global};
+use std::test::Fail;
+
+/// So many sectors, each byte of which is the sector's number.
+fn numbered(alloc: Global, sectors: u8) -> Result<Vec<u8>, AllocError>
+    ensures { IfOk result (λ bytes. vec_len bytes ≡ 512 * sectors) }
+{
+    let mut bytes = Vec::new(alloc);
+    for i in 0..512 * u32::from(sectors) {
+        bytes.push((i / 512) as u8)?;
+    }
+    Ok(bytes)
+}
+
+#[test]
+fn fixed_device_fails_where_a_bad_sector_is_touched(rt: HostRuntime) -> Result<(), Fail> {
+    let alloc = rt.alloc();
+    let mut device = FixedDevice::new(numbered(alloc, 4)?, vec![in alloc; 2]?);
+    assert_eq!(rt; device.size(), 2048);
+    let mut two = numbered(alloc, 2)?;
+    assert_eq!(rt; device.read_at(512, &mut two), Err(DeviceFailed));
+    assert_eq!(rt; device.read_at(1024, &mut two), Err(DeviceFailed));
+    assert_eq!(rt; device.read_at(0, &mut two), Ok(()));
+    assert!(rt; two.as_slice() == numbered(alloc, 2)?.as_slice());
+    let mut one = numbered(alloc, 1)?;
+    assert_eq!(rt; device.read_at(1536, &mut one), Ok(()));
+    assert!(rt; one.iter().all(|byte| *byte == 3));
+    Ok(())
+}
+
+#[test]
+fn folder_lists_and_reads_what_was_appended(rt: HostRuntime) -> Result<(), Fail> {
+    let alloc = rt.alloc();
+    let mut folder = MemoryFolder::new(alloc, Vec::new(alloc));
+    assert_eq!(rt; folder.append("map", &[1, 2]), Ok(()));
+    assert_eq!(rt; folder.append("idx", &[3]), Ok(()));
+    assert_eq!(rt; folder.append("map", &[4]), Ok(()));
+    assert_eq!(rt; folder.append("zero", &[]), Ok(()));
+    let mut listed = String::new(alloc);
+    for segment in &folder.list().map_err(|_| "list")? {
+        write!(&mut listed, "{} {},", segment.name, segment.len)?;
+    }
+    assert_eq!(rt; listed.as_str(), "idx 1,map 3,zero 0,");
+    let map = read_segment(alloc, &mut folder, "map").map_err(|_| "map")?;
+    assert!(rt; map.ok_or("no map")?.as_slice() == [1, 2, 4].as_slice());
+    let none = read_segment(alloc, &mut folder, "nap").map_err(|_| "nap")?;
+    assert!(rt; none.is_none());
+    assert_eq!(rt; folder.calls(), 8);
+    Ok(())
+}
+
+#[test]
+fn folder_fails_at_the_listed_calls(rt: HostRuntime) -> Result<(), Fail> {
+    let alloc = rt.alloc();
+    let mut folder = MemoryFolder::new(alloc, vec![in alloc; 2, 3, 5]?);
+    assert_eq!(rt; folder.append("map", &[1]), Ok(()));
+    assert_eq!(rt; folder.append("map", &[2]), Err(FolderError::Failed));
+    assert!(rt; folder.list().is_err());
+    assert!(rt; read_segment(alloc, &mut folder, "map").is_err());
+    let map = read_segment(alloc, &mut folder, "map").map_err(|_| "map")?;
+    assert!(rt; map.ok_or("no map")?.as_slice() == [1].as_slice());
+    assert_eq!(rt; folder.calls(), 7);
+    Ok(())
+}
+
+#[test]
+fn source_gives_its_bytes_once(rt: HostRuntime) -> Result<(), Fail> {
+    let alloc = rt.alloc();
+    let mut source = MemorySource::new(b"hello".to_vec(alloc)?, vec![in alloc; 2]?);
+    let mut buffer = [0; 3];
+    assert_eq!(rt; source.read(&mut buffer), Ok(3));
+    assert!(rt; buffer == *b"hel");
+    assert_eq!(rt; source.read(&mut buffer), Err(SourceFailed));
+    assert_eq!(rt; source.read(&mut buffer), Ok(2));
+    assert!(rt; buffer == *b"lol");
+    assert_eq!(rt; source.read(&mut buffer), Ok(0));
+    Ok(())
+}
+
+#[test]
+fn sink_keeps_what_is_written(rt: HostRuntime) -> Result<(), Fail> {
+    let alloc = rt.alloc();
+    let mut sink = MemorySink::new(alloc, vec![in alloc; 2]?);
+    assert_eq!(rt; sink.write(b"one "), Ok(()));
+    assert_eq!(rt; sink.write(b"two "), Err(SinkError::Failed));
+    assert_eq!(rt; sink.write(b"three"), Ok(()));
+    assert!(rt; sink.written() == b"one three".as_slice());
+    Ok(())
+}

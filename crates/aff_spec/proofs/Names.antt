@@ -1,0 +1,85 @@
+-- Names of segments: what they are for a uuid, and that they differ.
+use Rattle.std.proofs.Common.{◌≡◌, ℕ, ◌+◌, ◌/◌, ◌%◌, ◌≤◌, Bool, true, false, ◌&&◌, ◌||◌, ◌==◌, nat_le, List, [], ◌∷◌, ◌++◌, refl, sym, ap, ◌∙◌, cond, arith, codes, append_assoc}
+use Rattle.std.specs.Prelude.{◌≢◌, if◌then◌else◌}
+use Rattle.std.specs.List.{flat_map}
+use Rattle.std.specs.Str.{bytes_eq}
+use Rattle.std.proofs.lemmas.Bool.{and_parts}
+use Rattle.std.proofs.lemmas.List.{append_cancel_left}
+use Rattle.aff_model.proofs.HeldLaws.{bytes_eq_same}
+use Rattle.aff_spec.specs.Names.{escaped, is_plain, hex_digit, folder_name, stream_urn, image_urn, bevvy_name, index_name, map_name, idx_name}
+use Rattle.aff_spec.specs.Words.{is_uuid, uuid_from, fits_uuid, is_dash_place, is_hex}
+
+dash_is_plain : (b : ℕ) → (b == 45) ≡ true → is_plain b ≡ true
+dash_is_plain b dash = grind (arith, dash)
+
+hex_is_plain : (b : ℕ) → is_hex b ≡ true → is_plain b ≡ true
+hex_is_plain b hex = grind (arith, hex)
+
+uuid_byte_is_plain : (k b : ℕ) → fits_uuid k b ≡ true → is_plain b ≡ true
+uuid_byte_is_plain k b fits =
+    elim (is_dash_place k) as (λ t. cond t (b == 45) (is_hex b) ≡ true → is_plain b ≡ true) [
+      | true ↦ λ e. dash_is_plain b e
+      | false ↦ λ e. hex_is_plain b e
+    ] fits
+
+-- a uuid stands in a folder's name as it is
+escaped_uuid : (k : ℕ) (bytes tail : List ℕ) → uuid_from k bytes ≡ true → flat_map escaped (bytes ++ tail) ≡ bytes ++ flat_map escaped tail
+escaped_uuid k [] tail h = refl
+escaped_uuid k (b ∷ bytes) tail h =
+    let parts = and_parts (fits_uuid k b) (uuid_from (k + 1) bytes) h in
+    let plain : is_plain b ≡ true = uuid_byte_is_plain k b parts.0 in
+    ap (λ t. cond t (b ∷ []) (37 ∷ hex_digit (b / 16) ∷ hex_digit (b % 16) ∷ []) ++ flat_map escaped (bytes ++ tail)) plain
+    ∙ ap (λ v. b ∷ v) (escaped_uuid (k + 1) bytes tail parts.1)
+
+-- what stands before the uuid in each name
+abbrev front : List ℕ
+front = codes "aff4%3A%2F%2F"
+
+-- a name in full
+abbrev pub name_with : List ℕ → List ℕ → List ℕ
+name_with uuid tail = codes "aff4%3A%2F%2F" ++ (uuid ++ tail)
+
+module _ (uuid : List ℕ) (ok : is_uuid uuid ≡ true) where
+  pub bevvy_name_is : bevvy_name (stream_urn uuid) 0 ≡ name_with uuid (codes "%2Fdata/00000000")
+  bevvy_name_is = ap (λ v. (front ++ v) ++ codes "/00000000") (escaped_uuid 0 uuid (codes "/data") ok) ∙ ap (λ v. front ++ v) (append_assoc uuid (codes "%2Fdata") (codes "/00000000"))
+
+  pub index_name_is : index_name (stream_urn uuid) 0 ≡ name_with uuid (codes "%2Fdata/00000000.index")
+  index_name_is = ap (λ v. (front ++ v) ++ codes "/00000000.index") (escaped_uuid 0 uuid (codes "/data") ok) ∙ ap (λ v. front ++ v) (append_assoc uuid (codes "%2Fdata") (codes "/00000000.index"))
+
+  pub map_name_is : map_name (image_urn uuid) ≡ name_with uuid (codes "%2Fimage/map")
+  map_name_is = ap (λ v. (front ++ v) ++ codes "/map") (escaped_uuid 0 uuid (codes "/image") ok) ∙ ap (λ v. front ++ v) (append_assoc uuid (codes "%2Fimage") (codes "/map"))
+
+  pub idx_name_is : idx_name (image_urn uuid) ≡ name_with uuid (codes "%2Fimage/idx")
+  idx_name_is = ap (λ v. (front ++ v) ++ codes "/idx") (escaped_uuid 0 uuid (codes "/image") ok) ∙ ap (λ v. front ++ v) (append_assoc uuid (codes "%2Fimage") (codes "/idx"))
+
+-- a test that computes shows two texts apart
+pub apart_by : (xs ys : List ℕ) → bytes_eq xs ys ≡ false → xs ≢ ys
+apart_by xs ys test e =
+    let same : bytes_eq xs ys ≡ true = ap (λ v. bytes_eq xs v) (sym e) ∙ bytes_eq_same xs in
+    cc (test, same)
+
+-- names with different ends differ
+names_apart : (uuid xs ys : List ℕ) → bytes_eq xs ys ≡ false → name_with uuid xs ≢ name_with uuid ys
+names_apart uuid xs ys test e = apart_by xs ys test (append_cancel_left uuid xs ys (append_cancel_left front (uuid ++ xs) (uuid ++ ys) e))
+
+-- the four segments of a volume have four names
+pub record FourNames (bevvy index map idx : List ℕ) : Type 0 where
+  pub bevvy_index : bevvy ≢ index
+  pub bevvy_map : bevvy ≢ map
+  pub bevvy_idx : bevvy ≢ idx
+  pub index_map : index ≢ map
+  pub index_idx : index ≢ idx
+  pub map_idx : map ≢ idx
+
+along : (a b x y : List ℕ) → a ≡ x → b ≡ y → x ≢ y → a ≢ b
+along a b x y p q apart e = apart (sym p ∙ e ∙ q)
+
+pub four_names : (uuid : List ℕ) → is_uuid uuid ≡ true → FourNames (bevvy_name (stream_urn uuid) 0) (index_name (stream_urn uuid) 0) (map_name (image_urn uuid)) (idx_name (image_urn uuid))
+four_names uuid ok = record {
+  bevvy_index = along _ _ _ _ (bevvy_name_is uuid ok) (index_name_is uuid ok) (names_apart uuid _ _ refl);
+  bevvy_map = along _ _ _ _ (bevvy_name_is uuid ok) (map_name_is uuid ok) (names_apart uuid _ _ refl);
+  bevvy_idx = along _ _ _ _ (bevvy_name_is uuid ok) (idx_name_is uuid ok) (names_apart uuid _ _ refl);
+  index_map = along _ _ _ _ (index_name_is uuid ok) (map_name_is uuid ok) (names_apart uuid _ _ refl);
+  index_idx = along _ _ _ _ (index_name_is uuid ok) (idx_name_is uuid ok) (names_apart uuid _ _ refl);
+  map_idx = along _ _ _ _ (map_name_is uuid ok) (idx_name_is uuid ok) (names_apart uuid _ _ refl);
+}

@@ -1,0 +1,43 @@
+//! What ends a run early.
+ghost use Rattle.std.specs.Prelude.{◌≡◌};
+ghost use Rattle.aff_top.specs.declared.fault.Fault.TheVariants.{Memory};
+
+use aff_model::Memory as NoMemory;
+use std::alloc::{AllocError, AllocFailed};
+
+/// The first fault of a run, in the order in which a run goes: the words, the devices that were handed in,
+/// the source, its text, a reading, the folder. `Memory` can come anywhere.
+#[derive(Clone, Copy, Debug, PartialEq, Eq)]
+pub enum Fault {
+    Usage,
+    Devices,
+    Source,
+    Text,
+    Reading,
+    Folder,
+    Memory,
+}
+
+impl From<NoMemory> for Fault {
+    ghost from_gives = { λ _ e. e ≡ Memory };
+
+    fn from(_: NoMemory) -> Self {
+        Fault::Memory
+    }
+}
+
+impl From<AllocError> for Fault {
+    ghost from_gives = { λ _ e. e ≡ Memory };
+
+    fn from(_: AllocError) -> Self {
+        Fault::Memory
+    }
+}
+
+impl<T: Drop> From<AllocFailed<T>> for Fault {
+    ghost from_gives = { λ _ e. e ≡ Memory };
+
+    fn from(_: AllocFailed<T>) -> Self {
+        Fault::Memory
+    }
+}
