@@ -4,3 +4,5 @@ pub mod Adding
 pub mod Sectors
 pub mod InOrder
 pub mod Spots
+pub mod Few
+pub mod Legal

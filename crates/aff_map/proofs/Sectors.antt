@@ -42,10 +42,6 @@ is_ok-search bad s (Err i) found rising =
     subst (λ t. (t == s) ≡ false) (get_or_default bad k 0 d below)
     (elim (cases_lt k i) [ inl low ↦ differs (get_or bad k 0) s (at.1 k low) | inr high ↦ differs_above (get_or bad k 0) s (at.2 k high below) ])))
 
--- no number of a range is in the list
-pub IsClear : List ℕ → ℕ → ℕ → Type 0
-IsClear bad first last = (s : ℕ) → first ≤ s → s < last → ¬ (Contains bad s)
-
 -- the numbers up to a place are below the range, and the next one is no part of it
 pub clear_between : (bad : List ℕ) (first last i : ℕ) → ((k : ℕ) → k < i → get_or bad k 0 < first) → ((k : ℕ) → i ≤ k → k < length bad → last ≤ get_or bad k 0) → (s : ℕ) → first ≤ s → s < last → ¬ (Contains bad s)
 clear_between bad first last i low high s from to in_bad =

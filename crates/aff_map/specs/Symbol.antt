@@ -1,5 +1,6 @@
 -- The bytes of the symbolic streams.
-use Rattle.std.specs.Prelude.{ℕ, ◌%◌, codes, slice_index}
+use Rattle.std.specs.Prelude.{ℕ}
+use Rattle.aff_spec.specs.Symbols.{unknown_byte, unreadable_byte}
 use Rattle.aff_map.specs.declared.target.Target.{Target}
 use Rattle.aff_map.specs.declared.target.Target.TheVariants.{Stored, Zero, Unknown, Unreadable}
 
@@ -10,9 +11,9 @@ IsSymbolic Zero = Unit {0}
 IsSymbolic Unknown = Unit {0}
 IsSymbolic Unreadable = Unit {0}
 
--- the byte at a place: 0, or a letter of a word that is written again and again
+-- the byte at a place of a symbolic stream
 abbrev pub symbol_of : Target → ℕ → ℕ
 symbol_of Stored i = 0
 symbol_of Zero i = 0
-symbol_of Unknown i = slice_index (codes "UNKNOWN") (i % 7)
-symbol_of Unreadable i = slice_index (codes "UNREADABLEDATA") (i % 14)
+symbol_of Unknown i = unknown_byte i
+symbol_of Unreadable i = unreadable_byte i

@@ -13,3 +13,6 @@ mod target;
 
 pub use entries::entries_of;
 pub use target::{Target, symbol};
+
+#[cfg(test)]
+mod tests;
