@@ -43,12 +43,15 @@ urgent_first = publication 1 [] (Chunk 0 ∷ []) ∷ publication 0 [] (Chunk 1 �
 abbrev pub uuid : List ℕ
 uuid = codes "11111111-2222-4333-8444-555555555555"
 
--- a volume whose stream is one short chunk of four bytes, and whose map has one entry
-abbrev pub four_bytes : Held
-four_bytes = from_sorted {R = slice_cmp nat_cmp} (
+-- a volume whose stream is one short chunk of four bytes, and whose map has one entry: its segments, and the folder
+abbrev pub four_bytes_segments : List (List ℕ × List ℕ)
+four_bytes_segments =
     (codes "aff4%3A%2F%2F11111111-2222-4333-8444-555555555555%2Fdata/00000000", 9 ∷ 8 ∷ 7 ∷ 6 ∷ [])
     ∷ (codes "aff4%3A%2F%2F11111111-2222-4333-8444-555555555555%2Fdata/00000000.index", 0 ∷ 0 ∷ 0 ∷ 0 ∷ 0 ∷ 0 ∷ 0 ∷ 0 ∷ 4 ∷ 0 ∷ 0 ∷ 0 ∷ [])
     ∷ (codes "aff4%3A%2F%2F11111111-2222-4333-8444-555555555555%2Fimage/idx", codes "aff4://11111111-2222-4333-8444-555555555555/data\nhttp://aff4.org/Schema#Zero\n")
     ∷ (codes "aff4%3A%2F%2F11111111-2222-4333-8444-555555555555%2Fimage/map",
         2 ∷ 0 ∷ 0 ∷ 0 ∷ 0 ∷ 0 ∷ 0 ∷ 0 ∷ 3 ∷ 0 ∷ 0 ∷ 0 ∷ 0 ∷ 0 ∷ 0 ∷ 0 ∷ 1 ∷ 0 ∷ 0 ∷ 0 ∷ 0 ∷ 0 ∷ 0 ∷ 0 ∷ 0 ∷ 0 ∷ 0 ∷ 0 ∷ [])
-    ∷ [])
+    ∷ []
+
+abbrev pub four_bytes : Held
+four_bytes = from_sorted {R = slice_cmp nat_cmp} four_bytes_segments

@@ -23,8 +23,7 @@ pub fn one_sector()
     ensures index { point_at (0 ∷ 0 ∷ 0 ∷ 0 ∷ 0 ∷ 0 ∷ 0 ∷ 0 ∷ 0 ∷ 128 ∷ 0 ∷ 0 ∷ []) 0 ≡ record { at = 0; len = 32768 } }
     ensures map { entries_of (0 ∷ 0 ∷ 0 ∷ 0 ∷ 0 ∷ 0 ∷ 0 ∷ 0 ∷ 0 ∷ 2 ∷ 0 ∷ 0 ∷ 0 ∷ 0 ∷ 0 ∷ 0 ∷ 0 ∷ 0 ∷ 0 ∷ 0 ∷ 0 ∷ 0 ∷ 0 ∷ 0 ∷ 0 ∷ 0 ∷ 0 ∷ 0 ∷ [])
         ≡ record { at = 0; len = 512; target_at = 0; target = 0 } ∷ [] }
-{
-}
+{}
 
 /// Zeros only: no chunk, and the image's places in the stream of zeros.
 pub fn zeros_only()
@@ -33,8 +32,7 @@ pub fn zeros_only()
     ensures runs { place_runs (Zero ∷ Zero ∷ []) ≡ Zeros 2 ∷ [] }
     ensures map { entries_of (0 ∷ 0 ∷ 0 ∷ 0 ∷ 0 ∷ 0 ∷ 0 ∷ 0 ∷ 0 ∷ 0 ∷ 1 ∷ 0 ∷ 0 ∷ 0 ∷ 0 ∷ 0 ∷ 0 ∷ 0 ∷ 0 ∷ 0 ∷ 0 ∷ 0 ∷ 0 ∷ 0 ∷ 1 ∷ 0 ∷ 0 ∷ 0 ∷ [])
         ≡ record { at = 0; len = 65536; target_at = 0; target = 1 } ∷ [] }
-{
-}
+{}
 
 /// Sectors 01, bad, 03: the second reads as unreadable, and is printed from `L` on.
 pub fn one_bad_sector()
@@ -46,8 +44,7 @@ pub fn one_bad_sector()
     ensures unknown { cell_of counting (extent 0 1536 ∷ []) one_bad 1536 ≡ Unknown }
     ensures letter { fill_of 512 Unreadable ≡ 76 }
     ensures sectors { sector_runs (1 ∷ []) ≡ record { first = 1; count = 1 } ∷ [] }
-{
-}
+{}
 
 /// A chunk of bad sectors: it is not stored, and the next chunk has the next number.
 pub fn a_chunk_of_bad_sectors()
@@ -56,16 +53,14 @@ pub fn a_chunk_of_bad_sectors()
     ensures behind { history_spot (extent 0 98304 ∷ []) bad_chunk 65536 ≡ Some (0, 32768) }
     ensures places { place_runs (Chunk 0 ∷ Nothing ∷ Chunk 1 ∷ []) ≡ Chunks 0 1 ∷ Nothings 1 ∷ Chunks 1 1 ∷ [] }
     ensures sectors { sector_runs (range_with_len 64 64) ≡ record { first = 64; count = 64 } ∷ [] }
-{
-}
+{}
 
 /// Two extents, the later one published first: its chunk comes first in the stream.
 pub fn priority_against_place()
     ensures early { history_spot (extent 0 32768 ∷ extent 32768 32768 ∷ []) urgent_first 0 ≡ Some (0, 32768) }
     ensures late { history_spot (extent 0 32768 ∷ extent 32768 32768 ∷ []) urgent_first 32768 ≡ Some (0, 0) }
     ensures reversed { lookup (record { at = 0; len = 32768; target_at = 32768; target = 0 } ∷ record { at = 32768; len = 32768; target_at = 0; target = 0 } ∷ []) 40000 ≡ Some (0, 7232) }
-{
-}
+{}
 
 /// A volume of four bytes: two places before its one entry, three in it, and none behind.
 pub fn a_volume_of_four_bytes()
@@ -77,5 +72,4 @@ pub fn a_volume_of_four_bytes()
     ensures letter { volume_byte four_bytes (volume_of uuid) 1 ≡ Some 78 }
     ensures bevvy { bevvy_name (stream_urn uuid) 0 ≡ codes "aff4%3A%2F%2F11111111-2222-4333-8444-555555555555%2Fdata/00000000" }
     ensures map { map_name (image_urn uuid) ≡ codes "aff4%3A%2F%2F11111111-2222-4333-8444-555555555555%2Fimage/map" }
-{
-}
+{}

@@ -7,14 +7,10 @@ use std::alloc::{AllocError, Global};
 use std::test::Fail;
 
 /// The words of a run into a folder from one device.
-pub const WORDS: [&str; 4] = [
-    "acquire",
-    "F",
-    "11111111-2222-4333-8444-555555555555",
-    "D",
-];
+pub const WORDS: [&str; 4] = ["acquire", "F", "11111111-2222-4333-8444-555555555555", "D"];
 
 pub const STREAM: &str = "aff4%3A%2F%2F11111111-2222-4333-8444-555555555555%2Fdata";
+
 pub const IMAGE: &str = "aff4%3A%2F%2F11111111-2222-4333-8444-555555555555%2Fimage";
 
 /// Which calls are to fail, counted from 1 for each object; 0 is none.
@@ -40,7 +36,12 @@ pub struct Ran {
 }
 
 /// Runs over one card.
-pub fn run(alloc: Global, text: &[u8], card: FixedDevice, faults: Faults) -> Result<Ran, AllocError> {
+pub fn run(
+    alloc: Global,
+    text: &[u8],
+    card: FixedDevice,
+    faults: Faults,
+) -> Result<Ran, AllocError> {
     let mut devices: Vec<Box<dyn Device>> = Vec::new(alloc);
     devices.push(Box::new(alloc, card)?)?;
     let mut source = MemorySource::new(text.to_vec(alloc)?, vec![in alloc; faults.source]?);
@@ -76,7 +77,12 @@ pub fn card(alloc: Global, sectors: u8) -> Result<FixedDevice, AllocError> {
 }
 
 /// Whether the folder has no segment of this name.
-pub fn is_missing(alloc: Global, folder: &mut MemoryFolder, front: &str, name: &str) -> Result<bool, Fail> {
+pub fn is_missing(
+    alloc: Global,
+    folder: &mut MemoryFolder,
+    front: &str,
+    name: &str,
+) -> Result<bool, Fail> {
     let name = format!(in alloc; "{front}/{name}")?;
     match read_segment(alloc, folder, name.as_str()) {
         Ok(found) => Ok(found.is_none()),
@@ -85,7 +91,12 @@ pub fn is_missing(alloc: Global, folder: &mut MemoryFolder, front: &str, name: &
 }
 
 /// The bytes of a segment that is there.
-pub fn segment(alloc: Global, folder: &mut MemoryFolder, front: &str, name: &str) -> Result<Vec<u8>, Fail> {
+pub fn segment(
+    alloc: Global,
+    folder: &mut MemoryFolder,
+    front: &str,
+    name: &str,
+) -> Result<Vec<u8>, Fail> {
     let name = format!(in alloc; "{front}/{name}")?;
     match read_segment(alloc, folder, name.as_str()) {
         Ok(Some(bytes)) => Ok(bytes),

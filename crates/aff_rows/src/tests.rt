@@ -3,7 +3,8 @@ use aff_memory::FixedDevice;
 use std::alloc::Global;
 use std::test::Fail;
 
-const REPORT: &str = "volume aff4://11111111-2222-4333-8444-555555555555\nsize 512\nextents 1\npublications 1\npublication 1 0 0 own - c0+1\n";
+const REPORT: &str =
+    "volume aff4://11111111-2222-4333-8444-555555555555\nsize 512\nextents 1\npublications 1\npublication 1 0 0 own - c0+1\n";
 
 #[test]
 fn one_sector(rt: HostRuntime) -> Result<(), Fail> {
@@ -16,11 +17,23 @@ fn one_sector(rt: HostRuntime) -> Result<(), Fail> {
     assert!(rt; bevvy.iter().take(512).all(|b| *b == 1));
     assert!(rt; bevvy.iter().skip(512).all(|b| *b == 0));
     let index = segment(alloc, &mut ran.folder, STREAM, "00000000.index")?;
-    assert_eq!(rt; index.as_slice(), [0, 0, 0, 0, 0, 0, 0, 0, 0, 128, 0, 0].as_slice());
+    assert_eq!(rt;
+        index.as_slice(),
+        [0, 0, 0, 0, 0, 0, 0, 0, 0, 128, 0, 0].as_slice()
+    );
     let map = segment(alloc, &mut ran.folder, IMAGE, "map")?;
-    assert_eq!(rt; map.as_slice(), [0, 0, 0, 0, 0, 0, 0, 0, 0, 2, 0, 0, 0, 0, 0, 0, 0, 0, 0, 0, 0, 0, 0, 0, 0, 0, 0, 0].as_slice());
+    assert_eq!(rt;
+        map.as_slice(),
+        [
+            0, 0, 0, 0, 0, 0, 0, 0, 0, 2, 0, 0, 0, 0, 0, 0, 0, 0, 0, 0, 0, 0, 0, 0, 0, 0, 0, 0
+        ]
+        .as_slice()
+    );
     let targets = segment(alloc, &mut ran.folder, IMAGE, "idx")?;
-    assert_eq!(rt; targets.as_slice(), b"aff4://11111111-2222-4333-8444-555555555555/data\nhttp://aff4.org/Schema#Zero\nhttp://aff4.org/Schema#UnreadableData\n".as_slice());
+    assert_eq!(rt;
+        targets.as_slice(),
+        b"aff4://11111111-2222-4333-8444-555555555555/data\nhttp://aff4.org/Schema#Zero\nhttp://aff4.org/Schema#UnreadableData\n".as_slice()
+    );
     Ok(())
 }
 
@@ -28,7 +41,12 @@ fn one_sector(rt: HostRuntime) -> Result<(), Fail> {
 fn several_extents(rt: HostRuntime) -> Result<(), Fail> {
     let alloc = rt.alloc();
     // Falling places, neighbours in the image but not in the stream, and an extent of two chunks.
-    let mut ran = run(alloc, b"extent 512 512 0\nextent 0 512 9\nextent 1024 40448 0\n", card(alloc, 81)?, NONE)?;
+    let mut ran = run(
+        alloc,
+        b"extent 512 512 0\nextent 0 512 9\nextent 1024 40448 0\n",
+        card(alloc, 81)?,
+        NONE,
+    )?;
     assert_eq!(rt; ran.status, 0);
     let map = segment(alloc, &mut ran.folder, IMAGE, "map")?;
     assert_eq!(rt; map.len(), 84);
@@ -45,10 +63,21 @@ fn several_extents(rt: HostRuntime) -> Result<(), Fail> {
 #[test]
 fn neighbours_are_one_entry(rt: HostRuntime) -> Result<(), Fail> {
     let alloc = rt.alloc();
-    let mut ran = run(alloc, b"extent 0 32768 0\nextent 32768 32768 0\n", card(alloc, 128)?, NONE)?;
+    let mut ran = run(
+        alloc,
+        b"extent 0 32768 0\nextent 32768 32768 0\n",
+        card(alloc, 128)?,
+        NONE,
+    )?;
     assert_eq!(rt; ran.status, 0);
     let map = segment(alloc, &mut ran.folder, IMAGE, "map")?;
-    assert_eq!(rt; map.as_slice(), [0, 0, 0, 0, 0, 0, 0, 0, 0, 0, 1, 0, 0, 0, 0, 0, 0, 0, 0, 0, 0, 0, 0, 0, 0, 0, 0, 0].as_slice());
+    assert_eq!(rt;
+        map.as_slice(),
+        [
+            0, 0, 0, 0, 0, 0, 0, 0, 0, 0, 1, 0, 0, 0, 0, 0, 0, 0, 0, 0, 0, 0, 0, 0, 0, 0, 0, 0
+        ]
+        .as_slice()
+    );
     Ok(())
 }
 
@@ -94,7 +123,15 @@ fn faults_of_the_folder(rt: HostRuntime) -> Result<(), Fail> {
     let calls = good.folder.calls();
     assert_eq!(rt; calls, 4);
     for call in 1..=calls {
-        let ran = run(alloc, b"extent 0 512 0\n", card(alloc, 1)?, Faults { folder: call, ..NONE })?;
+        let ran = run(
+            alloc,
+            b"extent 0 512 0\n",
+            card(alloc, 1)?,
+            Faults {
+                folder: call,
+                ..NONE
+            },
+        )?;
         assert_eq!(rt; ran.status, 6);
         assert_eq!(rt; ran.written.as_slice(), b"error folder\n".as_slice());
     }
@@ -107,7 +144,10 @@ fn refused_devices(rt: HostRuntime) -> Result<(), Fail> {
     let ragged = FixedDevice::new(vec![in alloc; 1u8; 513]?, Vec::new(alloc));
     let ran = run(alloc, b"extent 0 512 0\n", ragged, NONE)?;
     assert_eq!(rt; ran.status, 10);
-    assert_eq!(rt; ran.written.as_slice(), b"error devices unbuilt\n".as_slice());
+    assert_eq!(rt;
+        ran.written.as_slice(),
+        b"error devices unbuilt\n".as_slice()
+    );
     let nothing = FixedDevice::new(Vec::new(alloc), Vec::new(alloc));
     assert_eq!(rt; run(alloc, b"", nothing, NONE)?.status, 10);
     let broken = FixedDevice::new(vec![in alloc; 1u8; 1024]?, vec![in alloc; 1u64]?);
