@@ -1,6 +1,6 @@
 -- A folder that was made by the appends of a volume is that volume.
-use Rattle.std.proofs.Common.{◌≡◌, ℕ, suc, ◌+◌, ◌*◌, ◌<◌, ◌≤◌, Bool, true, false, ◌==◌, cond, List, [], ◌∷◌, ◌++◌, length, refl, sym, ap, subst, ◌∙◌, arith, inl, inr}
-use Rattle.std.specs.Prelude.{◌≢◌, ◌⊎◌, ◌↔◌, Option, Some, None, IsSome, unwrap_or, All, Contains, slice_get, if◌then◌else◌}
+use Rattle.std.proofs.Common.{◌≡◌, ℕ, suc, ◌≤◌, true, false, ◌==◌, List, [], ◌∷◌, ◌++◌, length, refl, sym, ap, subst, ◌∙◌, arith, inl, inr}
+use Rattle.std.specs.Prelude.{◌≢◌, ◌⊎◌, Option, Some, None, IsSome, unwrap_or, All, Contains, if◌then◌else◌}
 use Rattle.std.specs.List.{concat, flat_map}
 use Rattle.std.specs.FinMap.{empty, get}
 use Rattle.aff_model.specs.declared.extent.Extent.{Extent}
@@ -19,8 +19,8 @@ use Rattle.aff_spec.specs.Streams.{stream_byte, full_points}
 use Rattle.aff_spec.specs.Chunks.{stream_chunks}
 use Rattle.aff_spec.specs.Appends.{Append, applied, appends_to}
 use Rattle.aff_spec.specs.Volumes.{targets_text}
-use Rattle.aff_spec.specs.Acquired.{stored_history, index_appends, stream_appends, map_appends, volume_appends, segment_names, IsVolume}
-use Rattle.aff_spec.proofs.Appends.{applied-append, bytes_of-appends_to, get-appends_to_other, is_there-appends_to, is_there-appended}
+use Rattle.aff_spec.specs.Acquired.{stored_history, index_appends, stream_appends, map_appends, volume_appends, IsVolume}
+use Rattle.aff_spec.proofs.Appends.{applied-append, bytes_of-appends_to, get-appends_to_other, is_there-appends_to}
 use Rattle.aff_spec.proofs.Chunks.{AreChunks, length-stream_chunks, AreChunks-stream_chunks}
 use Rattle.aff_spec.proofs.Members.{Contains-first, Contains-later, Contains-cases, Contains-none, alike}
 use Rattle.aff_spec.proofs.Names.{FourNames, four_names}
@@ -87,8 +87,8 @@ module _ (b i m t : List ℕ) (names : FourNames b i m t) (points map_bytes targ
   has_targets pieces =
       get-appended (appended (applied (applied empty (appends_to b pieces)) (indexed i points pieces)) m map_bytes) t targets
       ∙ ap (λ o. Some (unwrap_or o [] ++ targets))
-          (get-appended_other (applied (applied empty (appends_to b pieces)) (indexed i points pieces)) m map_bytes t (λ e. names.map_idx (sym e))
-          ∙ no_map pieces t (λ e. names.bevvy_idx (sym e)) (λ e. names.index_idx (sym e)))
+      (get-appended_other (applied (applied empty (appends_to b pieces)) (indexed i points pieces)) m map_bytes t (λ e. names.map_idx (sym e))
+      ∙ no_map pieces t (λ e. names.bevvy_idx (sym e)) (λ e. names.index_idx (sym e)))
 
   is_there : (o : Option (List ℕ)) (bytes : List ℕ) → o ≡ Some bytes → IsSome o
   is_there o bytes e = subst IsSome (sym e) refl
@@ -131,23 +131,23 @@ module _ (b i m t : List ℕ) (names : FourNames b i m t) (points map_bytes targ
       elim (alike m name) [
         | inl e ↦ named_last name (inl e)
         | inr not_m ↦ elim (alike t name) [
-            | inl e ↦ named_last name (inr e)
-            | inr not_t ↦ absurd (none_there _ (earlier [] name (λ e. not_m (sym e)) (λ e. not_t (sym e)) ∙ get_of_empty name) h)
-          ]
+          | inl e ↦ named_last name (inr e)
+          | inr not_t ↦ absurd (none_there _ (earlier [] name (λ e. not_m (sym e)) (λ e. not_t (sym e)) ∙ get_of_empty name) h)
+        ]
       ]
   named (p ∷ pieces) name h =
       elim (alike m name) [
         | inl e ↦ Contains-later b (i ∷ m ∷ t ∷ []) name (Contains-later i (m ∷ t ∷ []) name (named_last name (inl e)))
         | inr not_m ↦ elim (alike t name) [
-            | inl e ↦ Contains-later b (i ∷ m ∷ t ∷ []) name (Contains-later i (m ∷ t ∷ []) name (named_last name (inr e)))
-            | inr not_t ↦ elim (alike i name) [
-                | inl e ↦ Contains-later b (i ∷ m ∷ t ∷ []) name (subst (Contains (i ∷ m ∷ t ∷ [])) e (Contains-first i (m ∷ t ∷ [])))
-                | inr not_i ↦ elim (alike b name) [
-                    | inl e ↦ subst (Contains (b ∷ i ∷ m ∷ t ∷ [])) e (Contains-first b (i ∷ m ∷ t ∷ []))
-                    | inr not_b ↦ absurd (none_there _ (earlier (p ∷ pieces) name (λ e. not_m (sym e)) (λ e. not_t (sym e)) ∙ no_map (p ∷ pieces) name (λ e. not_b (sym e)) (λ e. not_i (sym e))) h)
-                  ]
-              ]
+          | inl e ↦ Contains-later b (i ∷ m ∷ t ∷ []) name (Contains-later i (m ∷ t ∷ []) name (named_last name (inr e)))
+          | inr not_t ↦ elim (alike i name) [
+            | inl e ↦ Contains-later b (i ∷ m ∷ t ∷ []) name (subst (Contains (i ∷ m ∷ t ∷ [])) e (Contains-first i (m ∷ t ∷ [])))
+            | inr not_i ↦ elim (alike b name) [
+              | inl e ↦ subst (Contains (b ∷ i ∷ m ∷ t ∷ [])) e (Contains-first b (i ∷ m ∷ t ∷ []))
+              | inr not_b ↦ absurd (none_there _ (earlier (p ∷ pieces) name (λ e. not_m (sym e)) (λ e. not_t (sym e)) ∙ no_map (p ∷ pieces) name (λ e. not_b (sym e)) (λ e. not_i (sym e))) h)
+            ]
           ]
+        ]
       ]
 
 no_zero : (n k : ℕ) → suc k ≡ n → (n == 0) ≡ false
@@ -159,7 +159,6 @@ unfolding indexed
 index_is i points [] n e = ap (λ k. if k == 0 then [] else (i, points) ∷ []) (sym e)
 index_is i points (p ∷ pieces) n e = ap (λ t. if t then [] else (i, points) ∷ []) (no_zero n (length pieces) e)
 
-
 names_are : (b i m t : List ℕ) (pieces : List (List ℕ)) (n : ℕ) → length pieces ≡ n → (if n == 0 then [] else b ∷ i ∷ []) ++ m ∷ t ∷ [] ≡ names_of b i m t pieces
 unfolding names_of
 names_are b i m t [] n e = ap (λ k. (if k == 0 then [] else b ∷ i ∷ []) ++ m ∷ t ∷ []) (sym e)
@@ -170,18 +169,18 @@ module _ (uuid : List ℕ) (content : Content) (extents : List Extent) (entries 
   -- the folder behind the four kinds of append
   made_as : applied empty (volume_appends uuid content extents entries)
       ≡ after (bevvy_name (stream_urn uuid) 0) (index_name (stream_urn uuid) 0) (map_name (image_urn uuid)) (idx_name (image_urn uuid)) (four_names uuid ok)
-        (flat_map point_bytes (full_points (chunks_of extents))) (flat_map entry_bytes entries) (targets_text (stream_urn uuid)) (stream_chunks content extents)
+      (flat_map point_bytes (full_points (chunks_of extents))) (flat_map entry_bytes entries) (targets_text (stream_urn uuid)) (stream_chunks content extents)
   unfolding after
   made_as =
       applied-append empty (stream_appends uuid content extents) (map_appends uuid entries)
       ∙ ap (λ h. applied h (map_appends uuid entries)) (applied-append empty (appends_to (bevvy_name (stream_urn uuid) 0) (stream_chunks content extents)) (index_appends uuid (chunks_of extents)))
       ∙ ap (λ a. applied (applied (applied empty (appends_to (bevvy_name (stream_urn uuid) 0) (stream_chunks content extents))) a) (map_appends uuid entries))
-          (index_is (index_name (stream_urn uuid) 0) (flat_map point_bytes (full_points (chunks_of extents))) (stream_chunks content extents) (chunks_of extents) (length-stream_chunks content extents))
+      (index_is (index_name (stream_urn uuid) 0) (flat_map point_bytes (full_points (chunks_of extents))) (stream_chunks content extents) (chunks_of extents) (length-stream_chunks content extents))
 
   -- the index holds the points, or there is no chunk
   streamed : (pieces : List (List ℕ)) → length pieces ≡ chunks_of extents → AreChunks pieces
       → ReadsAs (stream_byte (after (bevvy_name (stream_urn uuid) 0) (index_name (stream_urn uuid) 0) (map_name (image_urn uuid)) (idx_name (image_urn uuid)) (four_names uuid ok)
-        (flat_map point_bytes (full_points (chunks_of extents))) (flat_map entry_bytes entries) (targets_text (stream_urn uuid)) pieces) (stream_urn uuid)) pieces
+      (flat_map point_bytes (full_points (chunks_of extents))) (flat_map entry_bytes entries) (targets_text (stream_urn uuid)) pieces) (stream_urn uuid)) pieces
   unfolding ReadsAs
   streamed [] len whole k r below low = absurd (omega (arith, below))
   streamed (p ∷ pieces) len whole k r below low =
@@ -192,12 +191,12 @@ module _ (uuid : List ℕ) (content : Content) (extents : List Extent) (entries 
       let points = flat_map point_bytes (full_points (chunks_of extents)) in
       let names = four_names uuid ok in
       stream_reads (after b i m t names points (flat_map entry_bytes entries) (targets_text (stream_urn uuid)) (p ∷ pieces)) (stream_urn uuid) (p ∷ pieces) (omega (arith, few, len)) whole
-        (has_bevvy b i m t names points (flat_map entry_bytes entries) (targets_text (stream_urn uuid)) (p ∷ pieces))
-        (ap (λ o. unwrap_or o []) (has_index b i m t names points (flat_map entry_bytes entries) (targets_text (stream_urn uuid)) p pieces) ∙ ap (λ n. flat_map point_bytes (full_points n)) (sym len))
-        k r below low
+      (has_bevvy b i m t names points (flat_map entry_bytes entries) (targets_text (stream_urn uuid)) (p ∷ pieces))
+      (ap (λ o. unwrap_or o []) (has_index b i m t names points (flat_map entry_bytes entries) (targets_text (stream_urn uuid)) p pieces) ∙ ap (λ n. flat_map point_bytes (full_points n)) (sym len))
+      k r below low
 
   has_image : HasImage (after (bevvy_name (stream_urn uuid) 0) (index_name (stream_urn uuid) 0) (map_name (image_urn uuid)) (idx_name (image_urn uuid)) (four_names uuid ok)
-        (flat_map point_bytes (full_points (chunks_of extents))) (flat_map entry_bytes entries) (targets_text (stream_urn uuid)) (stream_chunks content extents)) uuid content extents entries
+      (flat_map point_bytes (full_points (chunks_of extents))) (flat_map entry_bytes entries) (targets_text (stream_urn uuid)) (stream_chunks content extents)) uuid content extents entries
   has_image =
       let b = bevvy_name (stream_urn uuid) 0 in
       let i = index_name (stream_urn uuid) 0 in
@@ -223,7 +222,7 @@ module _ (uuid : List ℕ) (content : Content) (extents : List Extent) (entries 
       let names = four_names uuid ok in
       let same = names_are b i m t pieces (chunks_of extents) (length-stream_chunks content extents) in
       let image : HasImage (applied empty (volume_appends uuid content extents entries)) uuid content extents entries =
-          subst (λ h. HasImage h uuid content extents entries) (sym made_as) has_image in
+      subst (λ h. HasImage h uuid content extents entries) (sym made_as) has_image in
       record {
         made = refl;
         segments = λ name. (

@@ -1,10 +1,10 @@
 -- Appends that are made one by one, from a function of their place.
-use Rattle.std.proofs.Common.{◌≡◌, ℕ, ◌+◌, ◌<◌, ◌≤◌, List, [], ◌∷◌, ◌++◌, map, take, drop, refl, sym, ap, subst, ◌∙◌, arith}
+use Rattle.std.proofs.Common.{◌≡◌, ℕ, ◌+◌, ◌<◌, List, [], ◌∷◌, ◌++◌, map, take, drop, sym, ap, subst, ◌∙◌, arith}
 use Rattle.std.specs.List.{range_with_len}
 use Rattle.std.proofs.lemmas.List.{map-append, take-append-drop}
 use Rattle.std.proofs.lemmas.List.FromFn.{take-map-range_with_len, map-range_with_len_more}
 use Rattle.aff_model.specs.Held.{Held}
-use Rattle.aff_spec.specs.Appends.{Append, applied, Reaches, appends_to}
+use Rattle.aff_spec.specs.Appends.{applied, Reaches, appends_to}
 use Rattle.aff_spec.proofs.Appends.{applied-append, Reaches-more, Reaches-after}
 
 pub appends_to-append : (name : List ℕ) (xs ys : List (List ℕ)) → appends_to name (xs ++ ys) ≡ appends_to name xs ++ appends_to name ys
@@ -29,9 +29,9 @@ module _ (name : List ℕ) (f : ℕ → List ℕ) where
       let first = appends_to name (map f (range_with_len 0 k)) in
       let rest = appends_to name (drop (k + 1) (map f (range_with_len 0 n))) in
       let whole : appends_to name (map f (range_with_len 0 n)) ≡ (first ++ (name, f k) ∷ []) ++ rest =
-          ap (appends_to name) (sym (take-append-drop (k + 1) (map f (range_with_len 0 n))))
-          ∙ appends_to-append name (take (k + 1) (map f (range_with_len 0 n))) (drop (k + 1) (map f (range_with_len 0 n)))
-          ∙ ap (λ v. appends_to name v ++ rest) (take-map-range_with_len f 0 n (k + 1) (omega (arith, below)))
-          ∙ ap (λ v. v ++ rest) (one_more k) in
+      ap (appends_to name) (sym (take-append-drop (k + 1) (map f (range_with_len 0 n))))
+      ∙ appends_to-append name (take (k + 1) (map f (range_with_len 0 n))) (drop (k + 1) (map f (range_with_len 0 n)))
+      ∙ ap (λ v. appends_to name v ++ rest) (take-map-range_with_len f 0 n (k + 1) (omega (arith, below)))
+      ∙ ap (λ v. v ++ rest) (one_more k) in
       subst (λ v. Reaches start v now) (sym whole)
       (Reaches-more start (first ++ (name, f k) ∷ []) rest now (Reaches-after start first ((name, f k) ∷ []) now (subst (λ h. Reaches h ((name, f k) ∷ []) now) before part)))

@@ -1,11 +1,11 @@
 -- What a folder holds after some appends.
-use Rattle.std.proofs.Common.{◌≡◌, ℕ, ◌≤◌, List, [], ◌∷◌, ◌++◌, length, take, map, refl, sym, ap, subst, ◌∙◌, append_assoc, append-nil, inl, inr}
-use Rattle.std.specs.Prelude.{◌≢◌, ◌⊎◌, Option, Some, None, IsSome, unwrap_or}
+use Rattle.std.proofs.Common.{◌≡◌, ℕ, List, [], ◌∷◌, ◌++◌, refl, sym, ap, subst, ◌∙◌, append_assoc, append-nil, inl, inr}
+use Rattle.std.specs.Prelude.{◌≢◌, Option, Some, IsSome}
 use Rattle.std.specs.List.{concat}
 use Rattle.std.specs.FinMap.{get}
 use Rattle.aff_model.specs.Held.{Held, bytes_of, appended}
-use Rattle.aff_model.proofs.HeldLaws.{bytes_of-appended, bytes_of-appended_other, get-appended, get-appended_other}
-use Rattle.aff_spec.specs.Appends.{Append, applied, IsCut, Reaches, appends_to}
+use Rattle.aff_model.proofs.HeldLaws.{bytes_of-appended, get-appended, get-appended_other}
+use Rattle.aff_spec.specs.Appends.{Append, applied, Reaches, appends_to}
 
 pub applied-append : (held : Held) (xs ys : List Append) → applied held (xs ++ ys) ≡ applied (applied held xs) ys
 applied-append held [] ys = refl

@@ -1,9 +1,9 @@
 -- Chunks of some bytes.
-use Rattle.std.proofs.Common.{◌≡◌, ℕ, zero, suc, ◌+◌, ◌-◌, ◌*◌, ◌/◌, ◌%◌, ◌<◌, ◌≤◌, List, [], ◌∷◌, ◌++◌, length, take, drop, get_or, map, refl, sym, ap, ◌∙◌, arith, min, Bool, true, false, nat_le, length-append, length-take, length-drop}
+use Rattle.std.proofs.Common.{◌≡◌, ℕ, zero, suc, ◌+◌, ◌-◌, ◌*◌, ◌<◌, ◌≤◌, List, [], ◌∷◌, ◌++◌, length, take, drop, get_or, map, refl, sym, ap, ◌∙◌, arith, min, Bool, true, false, nat_le, length-append, length-take, length-drop}
 use Rattle.std.specs.Prelude.{slice_index, slice_get, Some, replicate}
-use Rattle.std.specs.List.{range_with_len, concat, flat_map, AllByRecursion}
+use Rattle.std.specs.List.{range_with_len, concat, AllByRecursion}
 use Rattle.std.proofs.Math.ListN.{get_or-append}
-use Rattle.std.proofs.lemmas.List.{take_all, get_or-take, get_or-drop, length-replicate, drop-drop, get_or-append_right}
+use Rattle.std.proofs.lemmas.List.{take_all, get_or-take, get_or-drop, length-replicate}
 use Rattle.std.proofs.Math.Seq.{take-append_seam, drop-append-add}
 use Rattle.std.proofs.lemmas.List.FromFn.{length-map-range_with_len, get_or-map-range_with_len}
 use Rattle.std.proofs.lemmas.List.Sums.{sum_by-cons}
@@ -94,11 +94,11 @@ padded_take rest count is =
     let len : length (take 32768 rest) ≡ count = omega (arith, length-take 32768 rest, is) in
     let front : take count rest ≡ take 32768 rest = same_front rest count is (nat_le (length rest) 32768) refl in
     λ i. front i ++ replicate (32768 - sym len i) 0
- where
-  same_front : (rest : List ℕ) (count : ℕ) → count ≡ min (length rest) 32768 → (b : Bool) → nat_le (length rest) 32768 ≡ b → take count rest ≡ take 32768 rest
-  same_front rest count is true e =
-      let short : length rest ≤ 32768 = grind (arith, e) in
-      take_all count rest (omega (arith, is, short)) ∙ sym (take_all 32768 rest short)
-  same_front rest count is false e =
-      let long : count ≡ 32768 = grind (arith, e, is) in
-      ap (λ n. take n rest) long
+  where
+    same_front : (rest : List ℕ) (count : ℕ) → count ≡ min (length rest) 32768 → (b : Bool) → nat_le (length rest) 32768 ≡ b → take count rest ≡ take 32768 rest
+    same_front rest count is true e =
+        let short : length rest ≤ 32768 = grind (arith, e) in
+        take_all count rest (omega (arith, is, short)) ∙ sym (take_all 32768 rest short)
+    same_front rest count is false e =
+        let long : count ≡ 32768 = grind (arith, e, is) in
+        ap (λ n. take n rest) long

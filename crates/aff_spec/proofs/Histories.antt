@@ -1,6 +1,6 @@
 -- Histories of stored extents, grown at their ends, and their lines.
-use Rattle.std.proofs.Common.{◌≡◌, ℕ, zero, suc, ◌+◌, ◌*◌, ◌/◌, ◌<◌, ◌≤◌, ◌==◌, Bool, true, false, List, [], ◌∷◌, ◌++◌, length, take, drop, get_or, map, refl, sym, ap, subst, ◌∙◌, arith, codes, append_assoc, append-nil, length-append, length-take}
-use Rattle.std.specs.Prelude.{if◌then◌else◌, sum_by}
+use Rattle.std.proofs.Common.{◌≡◌, ℕ, zero, suc, ◌+◌, ◌<◌, ◌≤◌, ◌==◌, true, false, List, [], ◌∷◌, ◌++◌, length, take, drop, get_or, map, refl, sym, ap, ◌∙◌, arith, codes, append_assoc, append-nil, length-take}
+use Rattle.std.specs.Prelude.{if◌then◌else◌}
 use Rattle.std.specs.List.{range_with_len, join_with_byte}
 use Rattle.std.specs.Fmt.{decimal}
 use Rattle.std.proofs.lemmas.List.{take-append-drop, take_more}
@@ -10,7 +10,7 @@ use Rattle.aff_model.specs.declared.publication.Place.TheVariants.{Chunk}
 use Rattle.aff_model.specs.History.{Published}
 use Rattle.aff_model.specs.Plan.{chunk_count, chunks_of}
 use Rattle.aff_spec.specs.Acquired.{stored_publication, stored_from}
-use Rattle.aff_spec.specs.Report.{PlaceRun, Chunks, place_runs, with_place, place_run_text, publication_line, publication_lines}
+use Rattle.aff_spec.specs.Report.{Chunks, place_runs, with_place, place_run_text, publication_line, publication_lines}
 
 pub chunks_of-append : (xs ys : List Extent) → chunks_of (xs ++ ys) ≡ chunks_of xs + chunks_of ys
 chunks_of-append xs ys = sum_by-append (λ e. chunk_count e.len) xs ys
@@ -80,19 +80,19 @@ line_of_run front extent first n =
 
 pub line_of_stored : (front extent first : ℕ) (x : Extent) → 0 < x.len → publication_line front (stored_publication extent first x) ≡ stored_line front extent first (chunk_count x.len)
 line_of_stored front extent first x some = at (chunk_count x.len) (omega (arith, some))
- where
-  at : (n : ℕ) → 0 < n → publication_line front (record { extent = extent; claimant = 0; swept = false; bad = []; places = map Chunk (range_with_len first n) }) ≡ stored_line front extent first n
-  at zero none = absurd (omega arith)
-  at (suc n) some = line_of_run front extent first n
+  where
+    at : (n : ℕ) → 0 < n → publication_line front (record { extent = extent; claimant = 0; swept = false; bad = []; places = map Chunk (range_with_len first n) }) ≡ stored_line front extent first n
+    at zero none = absurd (omega arith)
+    at (suc n) some = line_of_run front extent first n
 
 -- the lines with one extent more
 pub lines-next : (extents : List Extent) (k : ℕ) (d : Extent) → k < length extents → 0 < (get_or extents k d).len
     → publication_lines 1 (stored_from 0 0 (take (k + 1) extents))
-      ≡ publication_lines 1 (stored_from 0 0 (take k extents)) ++ stored_line (k + 1) k (chunks_of (take k extents)) (chunk_count (get_or extents k d).len)
+    ≡ publication_lines 1 (stored_from 0 0 (take k extents)) ++ stored_line (k + 1) k (chunks_of (take k extents)) (chunk_count (get_or extents k d).len)
 lines-next extents k d below some =
     let x = get_or extents k d in
     let front : 1 + length (stored_from 0 0 (take k extents)) ≡ k + 1 = omega (arith, length-stored_from 0 0 (take k extents), length-take k extents, below) in
     ap (publication_lines 1) (stored_from-next extents k d below)
     ∙ publication_lines-append 1 (stored_from 0 0 (take k extents)) (stored_publication k (chunks_of (take k extents)) x)
     ∙ ap (λ v. publication_lines 1 (stored_from 0 0 (take k extents)) ++ v)
-        (ap (λ n. publication_line n (stored_publication k (chunks_of (take k extents)) x)) front ∙ line_of_stored (k + 1) k (chunks_of (take k extents)) x some)
+    (ap (λ n. publication_line n (stored_publication k (chunks_of (take k extents)) x)) front ∙ line_of_stored (k + 1) k (chunks_of (take k extents)) x some)

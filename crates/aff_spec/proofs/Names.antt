@@ -1,12 +1,12 @@
 -- Names of segments: what they are for a uuid, and that they differ.
-use Rattle.std.proofs.Common.{◌≡◌, ℕ, ◌+◌, ◌/◌, ◌%◌, ◌≤◌, Bool, true, false, ◌&&◌, ◌||◌, ◌==◌, nat_le, List, [], ◌∷◌, ◌++◌, refl, sym, ap, ◌∙◌, cond, arith, codes, append_assoc}
-use Rattle.std.specs.Prelude.{◌≢◌, if◌then◌else◌}
+use Rattle.std.proofs.Common.{◌≡◌, ℕ, ◌+◌, ◌/◌, ◌%◌, true, false, ◌==◌, List, [], ◌∷◌, ◌++◌, refl, sym, ap, ◌∙◌, cond, arith, codes, append_assoc}
+use Rattle.std.specs.Prelude.{◌≢◌}
 use Rattle.std.specs.List.{flat_map}
 use Rattle.std.specs.Str.{bytes_eq}
 use Rattle.std.proofs.lemmas.Bool.{and_parts}
 use Rattle.std.proofs.lemmas.List.{append_cancel_left}
 use Rattle.aff_model.proofs.HeldLaws.{bytes_eq_same}
-use Rattle.aff_spec.specs.Names.{escaped, is_plain, hex_digit, folder_name, stream_urn, image_urn, bevvy_name, index_name, map_name, idx_name}
+use Rattle.aff_spec.specs.Names.{escaped, is_plain, hex_digit, stream_urn, image_urn, bevvy_name, index_name, map_name, idx_name}
 use Rattle.aff_spec.specs.Words.{is_uuid, uuid_from, fits_uuid, is_dash_place, is_hex}
 
 dash_is_plain : (b : ℕ) → (b == 45) ≡ true → is_plain b ≡ true

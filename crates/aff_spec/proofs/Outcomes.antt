@@ -1,6 +1,6 @@
 -- How the parts of a volume come together.
-use Rattle.std.proofs.Common.{◌≡◌, ℕ, ◌≤◌, Bool, true, List, [], ◌++◌, length, take, drop, refl, sym, ap, subst, ◌∙◌, append-nil, inl, inr}
-use Rattle.std.specs.Prelude.{◌⊎◌, Option, Some, None, IfSome, IsTrue, All, AllPairs}
+use Rattle.std.proofs.Common.{◌≡◌, ℕ, ◌≤◌, Bool, true, List, [], length, take, drop, sym, ap, subst, ◌∙◌, append-nil, inl, inr}
+use Rattle.std.specs.Prelude.{Option, Some, None, IfSome, IsTrue, All, AllPairs}
 use Rattle.std.specs.FinMap.{empty}
 use Rattle.std.specs.List.{flat_map}
 use Rattle.aff_model.specs.declared.extent.Extent.{Extent}
@@ -34,9 +34,9 @@ module _ (case : Option Content) (uuid : List ℕ) (extents : List Extent) (tell
         content = content_for case extents stores.readings;
         is_case = is_content_for case extents stores.readings;
         made = λ t.
-          indexed t
-          ∙ ap (λ h. applied h (index_appends uuid (chunks_of extents))) (stores.stored t ∙ ap (λ v. applied old (appends_to name v)) (chunks_of_readings case extents stores.readings apart stores.are))
-          ∙ sym (applied-append old (appends_to name (stream_chunks (content_for case extents stores.readings) extents)) (index_appends uuid (chunks_of extents)));
+            indexed t
+            ∙ ap (λ h. applied h (index_appends uuid (chunks_of extents))) (stores.stored t ∙ ap (λ v. applied old (appends_to name v)) (chunks_of_readings case extents stores.readings apart stores.are))
+            ∙ sym (applied-append old (appends_to name (stream_chunks (content_for case extents stores.readings) extents)) (index_appends uuid (chunks_of extents)));
       }
 
   -- the index was appended in part
@@ -49,8 +49,8 @@ module _ (case : Option Content) (uuid : List ℕ) (extents : List Extent) (tell
         content = content_for case extents stores.readings;
         is_case = is_content_for case extents stores.readings;
         reached = λ t.
-          let whole : mid ≡ applied old (appends_to name chunks) = stores.stored t ∙ ap (λ v. applied old (appends_to name v)) (chunks_of_readings case extents stores.readings apart stores.are) in
-          Reaches-after old (appends_to name chunks) (index_appends uuid (chunks_of extents)) new (subst (λ h. Reaches h (index_appends uuid (chunks_of extents)) new) whole (indexed t));
+            let whole : mid ≡ applied old (appends_to name chunks) = stores.stored t ∙ ap (λ v. applied old (appends_to name v)) (chunks_of_readings case extents stores.readings apart stores.are) in
+            Reaches-after old (appends_to name chunks) (index_appends uuid (chunks_of extents)) new (subst (λ h. Reaches h (index_appends uuid (chunks_of extents)) new) whole (indexed t));
       }
 
   -- not all chunks were appended
@@ -62,8 +62,8 @@ module _ (case : Option Content) (uuid : List ℕ) (extents : List Extent) (tell
         content = content_for case (take some.count extents) some.readings;
         is_case = is_content_for case (take some.count extents) some.readings;
         reached = λ t.
-          Reaches-more old (appends_to name (stream_chunks content extents)) (index_appends uuid (chunks_of extents)) new
-          (subst (λ v. Reaches old v new)
+            Reaches-more old (appends_to name (stream_chunks content extents)) (index_appends uuid (chunks_of extents)) new
+            (subst (λ v. Reaches old v new)
             (sym (ap (appends_to name) (chunks_of_some case extents some.count some.readings apart some.are) ∙ appends_to-append name (flat_map chunks_in some.readings) (stream_chunks content (drop some.count extents))))
             (Reaches-more old (appends_to name (flat_map chunks_in some.readings)) (appends_to name (stream_chunks content (drop some.count extents))) new (some.reached t)));
       }
@@ -75,8 +75,8 @@ module _ (case : Option Content) (uuid : List ℕ) (extents : List Extent) (tell
     content = has.content;
     is_case = has.is_case;
     reached = λ t.
-      let whole = stream_appends uuid has.content extents in
-      subst (Reaches old whole) (sym (has.made t)) (subst (λ v. Reaches old v (applied old whole)) (append-nil whole) (Reaches-whole old whole []));
+        let whole = stream_appends uuid has.content extents in
+        subst (Reaches old whole) (sym (has.made t)) (subst (λ v. Reaches old v (applied old whole)) (append-nil whole) (Reaches-whole old whole []));
   }
 
   module _ (entries : List Entry) (runs : AreGreatestRuns (history_spot extents (stored_history extents)) entries) where

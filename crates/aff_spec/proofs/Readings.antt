@@ -1,12 +1,12 @@
 -- Readings of the extents of a plan are the bytes of one content.
-use Rattle.std.proofs.Common.{◌≡◌, ℕ, zero, suc, ◌+◌, ◌-◌, ◌<◌, ◌≤◌, Bool, true, false, ◌&&◌, nat_le, nat_lt, cond, List, [], ◌∷◌, ◌++◌, length, take, drop, get_or, map, refl, sym, ap, subst, ◌∙◌, arith, inl, inr}
+use Rattle.std.proofs.Common.{◌≡◌, ℕ, zero, suc, ◌+◌, ◌-◌, ◌<◌, true, false, List, [], ◌∷◌, ◌++◌, length, take, drop, get_or, map, refl, sym, ap, ◌∙◌, arith, inl, inr}
 use Rattle.std.proofs.lemmas.Grind.{same_number_lists}
-use Rattle.std.specs.Prelude.{◌⊎◌, Option, Some, None, IfSome, AllPairs, if◌then◌else◌}
+use Rattle.std.specs.Prelude.{Option, Some, None, IfSome, AllPairs, if◌then◌else◌}
 use Rattle.std.specs.List.{flat_map, AllByRecursion}
 use Rattle.std.proofs.lemmas.List.{take-append-drop}
 use Rattle.std.proofs.lemmas.List.Concat.{flat_map-append}
 use Rattle.aff_model.specs.declared.extent.Extent.{Extent}
-use Rattle.aff_model.specs.Content.{Content, IsRead}
+use Rattle.aff_model.specs.Content.{Content}
 use Rattle.aff_model.specs.Plan.{AreApart, has_place}
 use Rattle.aff_spec.specs.Chunks.{chunks_in, extent_bytes, stream_chunks}
 use Rattle.aff_spec.specs.Reads.{IsReading, AreReadings}
@@ -42,8 +42,8 @@ is_content_for (Some c) extents readings = refl
 is_extent_bytes : (c : Content) (e : Extent) (r : List ℕ) → length r ≡ e.len → ((k : ℕ) → k < e.len → get_or r k 0 ≡ c.byte (e.at + k)) → r ≡ extent_bytes c e
 is_extent_bytes c e r len bytes =
     same_number_lists r (extent_bytes c e) (len ∙ sym (length-extent_bytes c e)) (λ k below.
-      let low : k < e.len = omega (arith, below, len) in
-      bytes k low ∙ sym (get_or-extent_bytes c e k low))
+    let low : k < e.len = omega (arith, below, len) in
+    bytes k low ∙ sym (get_or-extent_bytes c e k low))
 
 told_bytes : (c : Content) (extents : List Extent) (readings : List (List ℕ)) → AreReadings (Some c) extents readings → readings ≡ map (extent_bytes c) extents
 told_bytes c [] [] all = refl
@@ -102,15 +102,15 @@ untold_bytes case [] (r ∷ readings) apart all = absurd all
 untold_bytes case (e ∷ extents) [] apart all = absurd all
 untold_bytes case (e ∷ extents) (r ∷ readings) apart all =
     let own : r ≡ extent_bytes (untold_content (e ∷ extents) (r ∷ readings)) e =
-        is_extent_bytes (untold_content (e ∷ extents) (r ∷ readings)) e r all.0.len (λ k below.
-          ap (λ n. get_or r n 0) (sub_own e.at k) ∙ ap (λ t. if t then get_or r (e.at + k - e.at) 0 else byte_from extents readings (e.at + k)) (sym (own_place e k below))) in
+    is_extent_bytes (untold_content (e ∷ extents) (r ∷ readings)) e r all.0.len (λ k below.
+    ap (λ n. get_or r n 0) (sub_own e.at k) ∙ ap (λ t. if t then get_or r (e.at + k - e.at) 0 else byte_from extents readings (e.at + k)) (sym (own_place e k below))) in
     let others : map (extent_bytes (untold_content extents readings)) extents ≡ map (extent_bytes (untold_content (e ∷ extents) (r ∷ readings))) extents =
-        same_later (untold_content extents readings) (untold_content (e ∷ extents) (r ∷ readings)) e extents apart.0 (λ f far k below.
-          ap (λ t. if t then get_or r (f.at + k - e.at) 0 else byte_from extents readings (f.at + k)) (sym (other_place e f k below far))) in
+    same_later (untold_content extents readings) (untold_content (e ∷ extents) (r ∷ readings)) e extents apart.0 (λ f far k below.
+    ap (λ t. if t then get_or r (f.at + k - e.at) 0 else byte_from extents readings (f.at + k)) (sym (other_place e f k below far))) in
     λ i. own i ∷ (untold_bytes case extents readings apart.1 all.1 ∙ others) i
- where
-  sub_own : (a k : ℕ) → k ≡ a + k - a
-  sub_own a k = omega arith
+  where
+    sub_own : (a k : ℕ) → k ≡ a + k - a
+    sub_own a k = omega arith
 
 readings_of : (case : Option Content) (extents : List Extent) (readings : List (List ℕ)) → Apart extents → AreReadings case extents readings
     → readings ≡ map (extent_bytes (content_for case extents readings)) extents
@@ -131,10 +131,10 @@ chunks_of_readings case extents readings apart all =
 -- those of some first extents are the first ones of the content
 pub chunks_of_some : (case : Option Content) (extents : List Extent) (n : ℕ) (readings : List (List ℕ)) → AllPairs AreApart extents → AreReadings case (take n extents) readings
     → stream_chunks (content_for case (take n extents) readings) extents
-      ≡ flat_map chunks_in readings ++ stream_chunks (content_for case (take n extents) readings) (drop n extents)
+    ≡ flat_map chunks_in readings ++ stream_chunks (content_for case (take n extents) readings) (drop n extents)
 chunks_of_some case extents n readings apart all =
     let c = content_for case (take n extents) readings in
     ap (stream_chunks c) (sym (take-append-drop n extents))
     ∙ flat_map-append (λ e. chunks_in (extent_bytes c e)) (take n extents) (drop n extents)
     ∙ ap (λ v. v ++ stream_chunks c (drop n extents))
-        (sym (ap (flat_map chunks_in) (readings_of case (take n extents) readings (apart_take extents n (apart_of extents apart)) all) ∙ chunks_along c (take n extents)))
+    (sym (ap (flat_map chunks_in) (readings_of case (take n extents) readings (apart_take extents n (apart_of extents apart)) all) ∙ chunks_along c (take n extents)))

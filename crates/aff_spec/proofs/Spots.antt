@@ -1,6 +1,6 @@
 -- Where the bytes of an image are after a history whose chunks are all stored.
-use Rattle.std.proofs.Common.{◌≡◌, ℕ, zero, suc, ◌+◌, ◌-◌, ◌*◌, ◌/◌, ◌%◌, ◌<◌, ◌≤◌, Bool, true, false, ◌&&◌, ◌||◌, nat_le, nat_lt, cond, List, [], ◌∷◌, ◌++◌, length, get_or, map, refl, sym, ap, subst, ◌∙◌, arith, append_assoc, append-nil, length-append, inl, inr}
-use Rattle.std.specs.Prelude.{◌⊎◌, Option, Some, None, slice_get, slice_index, if◌then◌else◌}
+use Rattle.std.proofs.Common.{◌≡◌, ℕ, suc, ◌+◌, ◌-◌, ◌*◌, ◌/◌, ◌%◌, ◌<◌, ◌≤◌, true, false, ◌||◌, nat_le, nat_lt, cond, List, [], ◌∷◌, ◌++◌, length, get_or, map, refl, sym, ap, subst, ◌∙◌, arith, append_assoc, length-append, inl, inr}
+use Rattle.std.specs.Prelude.{◌⊎◌, Option, Some, None, slice_get, if◌then◌else◌}
 use Rattle.std.specs.List.{range_with_len, list_any}
 use Rattle.std.proofs.lemmas.Bool.{and_parts}
 use Rattle.std.proofs.Math.ListN.{get_or-append}
@@ -9,12 +9,11 @@ use Rattle.std.proofs.lemmas.List.{get_or-append-add}
 use Rattle.std.proofs.lemmas.Option.{slice_get-get_or}
 use Rattle.std.proofs.lemmas.List.FromFn.{length-map-range_with_len, get_or-map-range_with_len}
 use Rattle.aff_model.specs.declared.extent.Extent.{Extent}
-use Rattle.aff_model.specs.declared.publication.Place.{Place}
-use Rattle.aff_model.specs.declared.publication.Place.TheVariants.{Zero, Chunk, Nothing}
+use Rattle.aff_model.specs.declared.publication.Place.TheVariants.{Chunk, Nothing}
 use Rattle.aff_model.specs.Content.{Content}
 use Rattle.aff_model.specs.Plan.{has_place, chunk_count}
 use Rattle.aff_spec.specs.Runs.{Spot, history_spot, spot_by, published_spot, place_spot}
-use Rattle.aff_spec.specs.Chunks.{chunk_at, chunks_in, extent_bytes, stream_chunks}
+use Rattle.aff_spec.specs.Chunks.{chunks_in, extent_bytes, stream_chunks}
 use Rattle.aff_spec.specs.Acquired.{stored_publication, stored_from}
 use Rattle.aff_spec.proofs.Chunks.{chunk_byte, length-chunks_in, get_or-chunks_in, length-extent_bytes, get_or-extent_bytes}
 
@@ -61,7 +60,7 @@ spots_from done (x ∷ rest) c i =
     ∙ spots_from (done ++ x ∷ []) rest (c + chunk_count x.len) i in
     ap (λ o. spot_by o p i (history_spot (done ++ x ∷ rest) (stored_from (suc (length done)) (c + chunk_count x.len) rest) i)) (nth_after done x rest)
     ∙ elim (has_place i x) as (λ t. has_place i x ≡ t → cond t (published_spot x p i) (history_spot (done ++ x ∷ rest) (stored_from (suc (length done)) (c + chunk_count x.len) rest) i)
-        ≡ cond t (Some (0, stream_place c x i)) (stored_spot (c + chunk_count x.len) rest i)) [
+    ≡ cond t (Some (0, stream_place c x i)) (stored_spot (c + chunk_count x.len) rest i)) [
       | true ↦ λ h. published (length done) c i x h
       | false ↦ λ h. next
     ] refl
@@ -97,10 +96,10 @@ byte_in stream before after content x c i at h reads =
     let inside : c + (i - x.at) / 32768 < length (before ++ (chunks_in bytes ++ after)) = omega (arith, at, below, count, length-append before (chunks_in bytes ++ after), length-append (chunks_in bytes) after) in
     reads (c + (i - x.at) / 32768) ((i - x.at) % 32768) inside rest
     ∙ ap (λ v. slice_get v ((i - x.at) % 32768))
-        (ap (λ n. get_or (before ++ (chunks_in bytes ++ after)) (n + (i - x.at) / 32768) []) (sym at)
-        ∙ get_or-append-add before (chunks_in bytes ++ after) ((i - x.at) / 32768) []
-        ∙ get_or-append (chunks_in bytes) after [] ((i - x.at) / 32768) (omega (arith, below, count))
-        ∙ get_or-chunks_in bytes ((i - x.at) / 32768) below)
+    (ap (λ n. get_or (before ++ (chunks_in bytes ++ after)) (n + (i - x.at) / 32768) []) (sym at)
+    ∙ get_or-append-add before (chunks_in bytes ++ after) ((i - x.at) / 32768) []
+    ∙ get_or-append (chunks_in bytes) after [] ((i - x.at) / 32768) (omega (arith, below, count))
+    ∙ get_or-chunks_in bytes ((i - x.at) / 32768) below)
     ∙ chunk_byte bytes ((i - x.at) / 32768) ((i - x.at) % 32768) rest (omega (arith, whole, len, low, high))
     ∙ ap Some (ap (λ n. get_or bytes n 0) whole ∙ get_or-extent_bytes content x (i - x.at) (omega (arith, low, high)) ∙ ap content.byte (omega (arith, low)))
 
@@ -114,8 +113,8 @@ reads_from stream content before (x ∷ extents) c i at reads =
     let len : length own ≡ chunk_count x.len = length-chunks_in (extent_bytes content x) ∙ ap chunk_count (length-extent_bytes content x) in
     let others : ReadsAs stream ((before ++ own) ++ stream_chunks content extents) = subst (ReadsAs stream) (sym (append_assoc before own (stream_chunks content extents))) reads in
     elim (has_place i x) as (λ t. has_place i x ≡ t
-        → ((cond t (Some (0, stream_place c x i)) (stored_spot (c + chunk_count x.len) extents i) ≡ None) × ((t || list_any (has_place i) extents) ≡ false))
-        ⊎ ((place : ℕ) × (cond t (Some (0, stream_place c x i)) (stored_spot (c + chunk_count x.len) extents i) ≡ Some (0, place)) × ((t || list_any (has_place i) extents) ≡ true) × (stream place ≡ Some (content.byte i)))) [
+    → ((cond t (Some (0, stream_place c x i)) (stored_spot (c + chunk_count x.len) extents i) ≡ None) × ((t || list_any (has_place i) extents) ≡ false))
+    ⊎ ((place : ℕ) × (cond t (Some (0, stream_place c x i)) (stored_spot (c + chunk_count x.len) extents i) ≡ Some (0, place)) × ((t || list_any (has_place i) extents) ≡ true) × (stream place ≡ Some (content.byte i)))) [
       | true ↦ λ h. inr (stream_place c x i, refl, refl, byte_in stream before (stream_chunks content extents) content x c i at h reads)
       | false ↦ λ h. reads_from stream content (before ++ own) extents (c + chunk_count x.len) i (length-append before own ∙ (λ j. at j + len j)) others
     ] refl

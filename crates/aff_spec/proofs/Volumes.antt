@@ -1,9 +1,9 @@
 -- What the image of a volume reads as, from what its segments are.
-use Rattle.std.proofs.Common.{◌≡◌, ℕ, ◌+◌, ◌-◌, ◌*◌, ◌/◌, ◌%◌, ◌<◌, ◌≤◌, Bool, true, false, ◌&&◌, ◌||◌, ◌==◌, nat_le, cond, List, [], ◌∷◌, ◌++◌, length, get_or, refl, sym, ap, ◌∙◌, arith, codes, append_assoc, inl, inr}
-use Rattle.std.specs.Prelude.{◌⊎◌, Option, Some, None, slice_get, slice_index, All, if◌then◌else◌}
+use Rattle.std.proofs.Common.{◌≡◌, ℕ, ◌+◌, true, false, ◌==◌, cond, List, [], ◌∷◌, ◌++◌, refl, sym, ap, ◌∙◌, arith, codes, append_assoc, inl, inr}
+use Rattle.std.specs.Prelude.{Option, Some, None, slice_get, All, if◌then◌else◌}
 use Rattle.std.specs.Option.{option_map, option_and_then}
 use Rattle.std.specs.Str.{bytes_eq}
-use Rattle.std.specs.List.{AllByRecursion, list_any}
+use Rattle.std.specs.List.{AllByRecursion}
 use Rattle.std.proofs.lemmas.Bool.{and_parts}
 use Rattle.std.proofs.lemmas.List.Elements.{All-append, All-from_recursion}
 use Rattle.std.proofs.lemmas.List.Splits.{slice_split_at}
@@ -12,7 +12,6 @@ use Rattle.aff_model.specs.declared.cell.Cell.{Cell}
 use Rattle.aff_model.specs.declared.cell.Cell.TheVariants.{Byte, Unreadable, Unknown}
 use Rattle.aff_model.specs.Content.{Content}
 use Rattle.aff_model.specs.Held.{Held, bytes_of}
-use Rattle.aff_model.specs.Plan.{has_place}
 use Rattle.aff_model.specs.Cells.{content_of}
 use Rattle.aff_model.proofs.HeldLaws.{bytes_eq_same}
 use Rattle.aff_fields.specs.declared.entry.Entry.{Entry}
@@ -34,9 +33,9 @@ no_feed k b fits =
       | true ↦ λ e. grind (arith, e)
       | false ↦ λ e. hex_no_feed b e
     ] fits
- where
-  hex_no_feed : (b : ℕ) → is_hex b ≡ true → (b == 10) ≡ false
-  hex_no_feed b hex = grind (arith, hex)
+  where
+    hex_no_feed : (b : ℕ) → is_hex b ≡ true → (b == 10) ≡ false
+    hex_no_feed b hex = grind (arith, hex)
 
 no_feeds : (k : ℕ) (bytes : List ℕ) → uuid_from k bytes ≡ true → AllByRecursion (λ b. (b == 10) ≡ false) bytes
 no_feeds k [] h = tt
@@ -59,9 +58,9 @@ first_target uuid ok =
 module _ (held : Held) (uuid : List ℕ) where
   stream_cell : (place : ℕ) → target_cell held (volume_of uuid) (stream_urn uuid) place ≡ option_map Byte (stream_byte held (stream_urn uuid) place)
   stream_cell place = ap (λ t. cond t (option_map Byte (stream_byte held (stream_urn uuid) place)) other) (bytes_eq_same (stream_urn uuid))
-   where
-    other : Option Cell
-    other = if bytes_eq (stream_urn uuid) zero_iri then Some (Byte 0) else (if bytes_eq (stream_urn uuid) unreadable_iri then Some Unreadable else (if bytes_eq (stream_urn uuid) unknown_iri then Some Unknown else None))
+    where
+      other : Option Cell
+      other = if bytes_eq (stream_urn uuid) zero_iri then Some (Byte 0) else (if bytes_eq (stream_urn uuid) unreadable_iri then Some Unreadable else (if bytes_eq (stream_urn uuid) unknown_iri then Some Unknown else None))
 
   gap_cell : (i : ℕ) → target_cell held (volume_of uuid) unknown_iri i ≡ Some Unknown
   gap_cell i = refl
@@ -71,9 +70,9 @@ module _ (held : Held) (uuid : List ℕ) where
 
   stream_byte_of : (place : ℕ) → target_byte held (volume_of uuid) (stream_urn uuid) place ≡ stream_byte held (stream_urn uuid) place
   stream_byte_of place = ap (λ t. cond t (stream_byte held (stream_urn uuid) place) other) (bytes_eq_same (stream_urn uuid))
-   where
-    other : Option ℕ
-    other = if bytes_eq (stream_urn uuid) zero_iri then Some 0 else (if bytes_eq (stream_urn uuid) unreadable_iri then Some (unreadable_byte place) else (if bytes_eq (stream_urn uuid) unknown_iri then Some (unknown_byte place) else None))
+    where
+      other : Option ℕ
+      other = if bytes_eq (stream_urn uuid) zero_iri then Some 0 else (if bytes_eq (stream_urn uuid) unreadable_iri then Some (unreadable_byte place) else (if bytes_eq (stream_urn uuid) unknown_iri then Some (unknown_byte place) else None))
 
 -- the segments of a volume of stored chunks, as what they read as
 pub record HasImage (held : Held) (uuid : List ℕ) (content : Content) (extents : List Extent) (entries : List Entry) : Type 0 where

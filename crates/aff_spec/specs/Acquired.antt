@@ -16,7 +16,7 @@ use Rattle.aff_spec.specs.Names.{stream_urn, image_urn, bevvy_name, index_name, 
 use Rattle.aff_spec.specs.Runs.{history_spot, AreGreatestRuns}
 use Rattle.aff_spec.specs.Streams.{full_points}
 use Rattle.aff_spec.specs.Chunks.{stream_chunks}
-use Rattle.aff_spec.specs.Appends.{Append, applied, appends_to, Reaches}
+use Rattle.aff_spec.specs.Appends.{Append, applied, appends_to}
 use Rattle.aff_spec.specs.Symbols.{fill_of}
 use Rattle.aff_spec.specs.Volumes.{volume_of, volume_cell, volume_byte, targets_text}
 use Rattle.aff_spec.specs.PlanText.{IsPlanText}

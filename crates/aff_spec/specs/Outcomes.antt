@@ -10,7 +10,7 @@ use Rattle.aff_fields.specs.Entry.{FitsEntry}
 use Rattle.aff_spec.specs.Appends.{applied, Reaches}
 use Rattle.aff_spec.specs.PlanText.{IsPlanText}
 use Rattle.aff_spec.specs.Runs.{history_spot, AreGreatestRuns}
-use Rattle.aff_spec.specs.Acquired.{stored_history, stream_appends, map_appends, volume_appends}
+use Rattle.aff_spec.specs.Acquired.{stored_history, stream_appends, volume_appends}
 
 -- the chunks of all extents and their index were appended
 pub record HasStream (case : Option Content) (uuid : List ℕ) (extents : List Extent) (tells : Bool) (old new : Held) : Type 0 where

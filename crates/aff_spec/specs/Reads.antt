@@ -1,5 +1,5 @@
 -- What was read of the extents of a plan, and what of it is stored.
-use Rattle.std.specs.Prelude.{◌≡◌, ℕ, ◌≤◌, Bool, List, [], ◌∷◌, length, take, Option, IfSome, IsTrue}
+use Rattle.std.specs.Prelude.{◌≡◌, ℕ, Bool, List, [], ◌∷◌, length, take, Option, IfSome, IsTrue}
 use Rattle.std.specs.List.{flat_map}
 use Rattle.aff_model.specs.declared.extent.Extent.{Extent}
 use Rattle.aff_model.specs.Content.{Content, IsRead}

@@ -1,14 +1,12 @@
 -- The history of a plan has a map.
-use Rattle.std.proofs.Common.{◌≡◌, ℕ, zero, suc, ◌+◌, ◌*◌, ◌<◌, ◌≤◌, ◌^◌, ◌==◌, false, List, [], ◌∷◌, ◌++◌, length, get_or, map, refl, sym, ap, subst, ◌∙◌, arith, append_assoc, length-append}
-use Rattle.std.specs.Prelude.{Option, Some, None, MatchOption, All, nat_eq, slice_get}
+use Rattle.std.proofs.Common.{◌≡◌, ℕ, zero, suc, ◌+◌, ◌<◌, ◌≤◌, ◌^◌, false, List, [], ◌∷◌, ◌++◌, length, map, refl, sym, ap, subst, ◌∙◌, arith, append_assoc, length-append}
+use Rattle.std.specs.Prelude.{MatchOption, nat_eq, slice_get}
 use Rattle.std.specs.List.{IsDistinct, AllByRecursion, range_with_len}
 use Rattle.std.proofs.lemmas.List.Elements.{All-from_recursion}
 use Rattle.std.proofs.lemmas.List.FromFn.{length-map-range_with_len, get_or-map-range_with_len}
 use Rattle.std.proofs.lemmas.List.Sums.{sum_by-cons}
 use Rattle.aff_model.specs.declared.extent.Extent.{Extent}
-use Rattle.aff_model.specs.declared.publication.Place.{Place}
-use Rattle.aff_model.specs.declared.publication.Place.TheVariants.{Chunk, Nothing}
-use Rattle.aff_model.specs.History.{Published}
+use Rattle.aff_model.specs.declared.publication.Place.TheVariants.{Chunk}
 use Rattle.aff_model.specs.Plan.{chunk_count, chunks_of}
 use Rattle.aff_spec.specs.Acquired.{stored_publication, stored_from, stored_history}
 use Rattle.aff_spec.proofs.Spots.{nth_after}

@@ -1,5 +1,5 @@
 -- What a run's outcome says of its folder.
-use Rattle.std.proofs.Common.{◌≡◌, refl, inl, inr, Ok, Err}
+use Rattle.std.proofs.Common.{refl, inl, inr, Ok, Err}
 use Rattle.std.specs.Prelude.{◌⊎◌, Result, IfOk, IsErrOf}
 use Rattle.aff_top.specs.declared.fault.Fault.{Fault}
 use Rattle.aff_top.specs.declared.fault.Fault.TheVariants.{Usage, Devices, Source, Text, Reading, Folder, Memory}

@@ -1,5 +1,5 @@
 -- The statuses of the top call, and the lines of its faults.
-use Rattle.std.specs.Prelude.{◌≡◌, ◌≤◌, ◌⊎◌, ◌==◌, ℕ, List, [], ◌∷◌, length, take, codes, Option, if◌then◌else◌}
+use Rattle.std.specs.Prelude.{◌≡◌, ◌≤◌, ◌⊎◌, ◌==◌, ℕ, List, [], length, take, codes, Option, if◌then◌else◌}
 use Rattle.std.specs.Io.KnownBytes.{Appends, Keeps}
 use Rattle.aff_top.specs.declared.fault.Fault.{Fault}
 use Rattle.aff_top.specs.declared.fault.Fault.TheVariants.{Usage, Devices, Source, Text, Reading, Folder, Memory}

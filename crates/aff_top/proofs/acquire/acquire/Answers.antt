@@ -1,4 +1,4 @@
-use Rattle.std.proofs.Common.{◌≡◌, ap, subst, ◌∙◌, inl, inr}
+use Rattle.std.proofs.Common.{ap, subst, ◌∙◌, inl, inr}
 use Rattle.aff_spec.specs.Acquired.{map_appends}
 use Rattle.aff_spec.specs.Appends.{applied, Reaches}
 use Rattle.aff_spec.proofs.Outcomes.{HasSomeStream-nothing, HasVolume-from, HasSomeMap-from}

@@ -1,4 +1,4 @@
-use Rattle.std.proofs.Common.{◌≡◌, ◌<◌, subst, arith}
+use Rattle.std.proofs.Common.{◌<◌, subst, arith}
 use Rattle.aff_spec.specs.Appends.{Reaches}
 use Rattle.aff_top.proofs.Making.{index_made}
 use Rattle.aff_top.proofs.acquire.append_index.Goals as goal

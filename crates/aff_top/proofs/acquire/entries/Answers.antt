@@ -1,4 +1,4 @@
-use Rattle.std.proofs.Common.{◌≡◌, map, sym, ap, subst, ◌∙◌}
+use Rattle.std.proofs.Common.{map, sym, ap, subst, ◌∙◌}
 use Rattle.aff_map.specs.Mappable.{AreMappable, published}
 use Rattle.aff_top.proofs.Mappables.{stored_mappable}
 use Rattle.aff_top.proofs.acquire.entries.Goals as goal

@@ -1,5 +1,4 @@
-use Rattle.std.proofs.Common.{◌≡◌, refl, sym, ap, subst, ◌∙◌}
-use Rattle.std.specs.Prelude.{IsTrue}
+use Rattle.std.proofs.Common.{◌≡◌, refl, ap, subst, ◌∙◌}
 use Rattle.aff_model.specs.Plan.{chunks_of}
 use Rattle.aff_spec.specs.Acquired.{index_appends}
 use Rattle.aff_spec.specs.Appends.{applied, Reaches}

@@ -1,4 +1,4 @@
-use Rattle.std.proofs.Common.{◌≡◌, ◌+◌, ◌*◌, ◌/◌, ◌<◌, ◌∷◌, [], length, ap, sym, subst, ◌∙◌, arith}
+use Rattle.std.proofs.Common.{◌<◌, ◌∷◌, [], length, ap, subst, ◌∙◌, arith}
 use Rattle.aff_model.specs.Plan.{chunk_count}
 use Rattle.aff_spec.specs.Appends.{applied, Reaches}
 use Rattle.aff_spec.specs.Chunks.{chunk_at}

@@ -1,4 +1,4 @@
-use Rattle.std.proofs.Common.{◌≡◌, length, ap, ◌∙◌, inr}
+use Rattle.std.proofs.Common.{length, ap, ◌∙◌, inr}
 use Rattle.aff_spec.specs.Acquired.{stored_history}
 use Rattle.aff_spec.specs.Report.{report_text}
 use Rattle.aff_spec.proofs.Outcomes.{acquired, interrupted, HasVolume-empty, IsUnfinished-empty}

@@ -1,4 +1,4 @@
-use Rattle.std.proofs.Common.{◌≡◌, ◌∙◌}
+use Rattle.std.proofs.Common.{◌∙◌}
 use Rattle.aff_spec.specs.Reads.{IsReading}
 use Rattle.aff_spec.proofs.Storing.{StoresReadings-one, StoresSome-one}
 use Rattle.aff_top.proofs.extents.acquire_extent.Goals as goal

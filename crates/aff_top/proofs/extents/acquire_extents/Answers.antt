@@ -1,4 +1,4 @@
-use Rattle.std.proofs.Common.{◌≡◌, ◌+◌, ◌≤◌, ◌∙◌, [], ◌∷◌, get_or, subst, arith}
+use Rattle.std.proofs.Common.{◌∙◌, [], ◌∷◌, get_or, subst, arith}
 use Rattle.aff_model.specs.declared.extent.Extent.{Extent}
 use Rattle.aff_spec.specs.Reads.{StoresReadings, StoresSome}
 use Rattle.aff_spec.proofs.Storing.{StoresReadings-next, StoresSome-next}

@@ -1,4 +1,4 @@
-use Rattle.std.proofs.Common.{◌≡◌, ◌≤◌, length, take}
+use Rattle.std.proofs.Common.{◌≡◌, ◌≤◌, take}
 use Rattle.aff_spec.specs.Reads.{StoresReadings}
 use Rattle.aff_top.proofs.extents.acquire_extents.Given as goal
 

@@ -1,6 +1,5 @@
-use Rattle.std.proofs.Common.{◌≡◌, ◌+◌, ◌<◌, ◌^◌, ◌==◌, ◌++◌, ◌∷◌, [], List, ℕ, refl, codes, arith, ◌∙◌}
+use Rattle.std.proofs.Common.{◌++◌, ◌∷◌, [], refl, codes, arith}
 use Rattle.std.specs.Fmt.{decimal}
-use Rattle.aff_spec.specs.PlanText.{FitsExtent}
 use Rattle.aff_top.proofs.Digits.{no_byte}
 use Rattle.aff_top.proofs.line.fields.Goals as goal
 

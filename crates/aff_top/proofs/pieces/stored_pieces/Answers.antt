@@ -3,7 +3,7 @@ use Rattle.std.proofs.lemmas.List.{map-append}
 use Rattle.aff_model.specs.declared.extent.Extent.{Extent}
 use Rattle.aff_model.specs.Plan.{chunks_of}
 use Rattle.aff_map.specs.Mappable.{published}
-use Rattle.aff_spec.specs.Acquired.{stored_publication, stored_from}
+use Rattle.aff_spec.specs.Acquired.{stored_publication}
 use Rattle.aff_spec.proofs.Histories.{stored_from-next, chunks_of-next}
 use Rattle.aff_top.proofs.pieces.stored_pieces.Goals as goal
 

@@ -1,10 +1,10 @@
-use Rattle.std.proofs.Common.{◌≡◌, ◌≤◌, ◌<◌, ◌^◌, sym, ap, subst, ◌∙◌, arith, inl, inr}
+use Rattle.std.proofs.Common.{◌≡◌, sym, ap, subst, ◌∙◌, arith, inl, inr}
 use Rattle.std.specs.Prelude.{IfSome}
 use Rattle.std.specs.List.{AllByRecursion}
 use Rattle.aff_model.specs.Plan.{IsPlan, chunks_of}
 use Rattle.aff_model.specs.declared.plan.PlanFault.TheVariants.{Memory}
 use Rattle.aff_top.specs.declared.fault.Fault.TheVariants.{Text}
-use Rattle.aff_spec.specs.PlanText.{FitsExtent, plan_text, IsPlanText}
+use Rattle.aff_spec.specs.PlanText.{FitsExtent, plan_text}
 use Rattle.aff_top.proofs.PlanTexts.{same_plan, plan_fits}
 use Rattle.aff_top.proofs.plan.plan_of.Goals as goal
 

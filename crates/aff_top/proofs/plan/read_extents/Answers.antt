@@ -1,9 +1,9 @@
-use Rattle.std.proofs.Common.{◌≡◌, ◌<◌, length, sym, subst, ◌∙◌}
+use Rattle.std.proofs.Common.{◌<◌, length, sym, subst, ◌∙◌}
 use Rattle.std.specs.Prelude.{◌≢◌, IfNone}
 use Rattle.aff_model.specs.declared.extent.Extent.{Extent}
 use Rattle.aff_spec.specs.PlanText.{FitsExtent, extent_line}
 use Rattle.aff_top.proofs.FourWords.{some_text}
-use Rattle.aff_top.proofs.PlanTexts.{FirstLine, next_line, line_body, line_alone, body_no_feed}
+use Rattle.aff_top.proofs.PlanTexts.{next_line, line_body, line_alone, body_no_feed}
 use Rattle.aff_top.proofs.plan.read_extents.Goals as goal
 
 pub returns-in_default-clause-none : goal.returns-in_default-clause-none

@@ -1,7 +1,7 @@
-use Rattle.std.proofs.Common.{◌≡◌, ◌++◌, length, take}
+use Rattle.std.proofs.Common.{◌≡◌, ◌++◌, take}
 use Rattle.std.specs.String.{string_bytes}
 use Rattle.aff_model.specs.Plan.{chunks_of}
-use Rattle.aff_spec.specs.Report.{header_text, publication_lines}
+use Rattle.aff_spec.specs.Report.{publication_lines}
 use Rattle.aff_spec.specs.Acquired.{stored_from}
 use Rattle.aff_top.proofs.report.report.Given as goal
 

@@ -1,4 +1,4 @@
-use Rattle.std.proofs.Common.{◌≡◌, ◌<◌, length, inl, inr, arith}
+use Rattle.std.proofs.Common.{◌<◌, length, inl, inr, arith}
 use Rattle.aff_top.proofs.Devices.{only_of}
 use Rattle.aff_top.proofs.run.acquire_words.Goals as goal
 

@@ -1,6 +1,5 @@
-use Rattle.std.proofs.Common.{◌≡◌, ◌<◌, ◌==◌, ℕ, true, false, List, [], length, slice_index_or, Bor, codes, arith, sym, ◌∙◌, ap}
-use Rattle.std.specs.Str.{bytes_eq}
-use Rattle.aff_spec.specs.Words.{IsAcquire, is_uuid}
+use Rattle.std.proofs.Common.{◌≡◌, ◌<◌, ℕ, true, List, [], length, slice_index_or, Bor, codes, arith, sym, ◌∙◌, ap}
+use Rattle.aff_spec.specs.Words.{is_uuid}
 use Rattle.aff_top.proofs.FourWords.{acquire_from, same_text, some_text}
 use Rattle.aff_top.proofs.words.acquire_uuid.Goals as goal
 
