@@ -1,5 +1,5 @@
 //! A whole extent.
-ghost use Rattle.std.specs.Prelude.{◌≡◌, ℕ, ◌+◌, ◌/◌, ◌%◌, ◌^◌, ◌≤◌, [], length, All, IfSome, OnOk, vec_len, vec_capacity};
+ghost use Rattle.std.specs.Prelude.{◌≡◌, ℕ, ◌+◌, ◌/◌, ◌%◌, ◌^◌, ◌<◌, ◌≤◌, [], length, All, IfSome, OnOk, OnErr, vec_len, vec_capacity};
 ghost use Rattle.aff_model.specs.Legal.{Fits};
 ghost use Rattle.aff_outside.specs.Seen.{IsZeroSector};
 ghost use Rattle.aff_device.specs.Around.{IsKnown, RoseBy};
@@ -8,10 +8,11 @@ use crate::part::read_part;
 use aff_model::Memory;
 use aff_outside::Device;
 
-/// Makes room in `bad` for the numbers of so many sectors more.
+/// Makes room in `bad` for the numbers of so many sectors more. Where there is that room, it cannot fail.
 pub fn reserve_bad(bad: &mut Vec<u32>, sectors: u32) -> Result<(), Memory>
     ensures same { bad.new.items ≡ bad.old.items }
     ensures room { OnOk result (vec_len bad.old + sectors ≤ vec_capacity bad.new) }
+    ensures missing { OnErr result (vec_capacity bad.old < vec_len bad.old + sectors) }
 {
     bad.reserve(sectors as usize).map_err(|_| Memory)
 }
