@@ -1,219 +1,135 @@
--- The places of the published extents, through each event.
-use Rattle.std.proofs.Common.{◌≡◌, ◌≢◌, ℕ, ◌<◌, ◌≤◌, inl, inr, zero, suc, Bool, true, false, cond, Option, None, Some, List, [], ◌∷◌, ◌++◌, length, get_or, set, replicate, count_by, refl, sym, ap, subst, ◌∙◌, arith, Contains, slice_get, MatchBool, leb}
-use Rattle.std.specs.Option.{is_none}
-use Rattle.std.proofs.lemmas.Bool.{cases_eq, false≢true}
+-- What a state keeps, through each event.
+use Rattle.std.proofs.Common.{◌≡◌, ℕ, ◌<◌, ◌≤◌, inl, inr, Bool, true, false, Option, None, Some, List, [], ◌∷◌, ◌++◌, length, map, set, replicate, sym, ap, subst, ◌∙◌, arith, Contains, slice_get, leb}
 use Rattle.std.proofs.lemmas.Bool.Decides.{leb_tells, nat_tests}
-use Rattle.std.proofs.lemmas.List.{get_or-set_same, get_or_append_left, get_or_push, length-set, length-replicate, length_push, length-map, map-append, get_or_default}
-use Rattle.std.proofs.lemmas.List.Sums.{sum_by-set, sum_by-cons}
-use Rattle.std.proofs.lemmas.Option.{slice_get-get_or, slice_get_within, same_Some, get_or_from_slice_get}
+use Rattle.std.proofs.lemmas.List.{length-set, length-replicate, length-map, map-append, map-set}
+use Rattle.std.proofs.lemmas.Option.{slice_get_within}
 use Rattle.aff_model.specs.Plan.{Planned, IsPlan}
 use Rattle.aff_model.specs.History.{Published}
-use Rattle.aff_core.specs.Steps.{CoreState, MayPublish, extents_out}
-use Rattle.aff_core.specs.Kept.{Tracks, IsKept, IsPlaced}
+use Rattle.aff_core.specs.declared.standing.Standing.{Standing}
+use Rattle.aff_core.specs.declared.standing.Standing.TheVariants.{Free, Claimed}
+use Rattle.aff_core.specs.declared.standing.Standing as stands
+use Rattle.aff_core.specs.Steps.{CoreState, IsStep, MayClaim, MayPublish, extents_out, start}
+use Rattle.aff_core.specs.declared.event.Event.{Event}
+use Rattle.aff_core.specs.Kept.{Tracks, IsKept, claim_of, place_of}
+use Rattle.aff_core.proofs.Standings.{awaited-iff, claims-published, claims-start, free, free-iff, inside-tracked, place-claimed, places-claimed, places-start}
+use Rattle.aff_core.proofs.Tracks.{tracks-complete, tracks-incomplete, tracks-more, tracks-room, tracks-start}
 
-pub slice_get-set_same : {X : Type 0} (xs : List X) (i : ℕ) (a : X) → i < length xs → slice_get (set xs i a) i ≡ Some a
-slice_get-set_same xs i a b =
-    let n = length-set xs i a in
-    let inside : i < length (set xs i a) = omega arith in
-    slice_get-get_or (set xs i a) i a inside ∙ ap Some (get_or-set_same xs i a a b)
-
-pub slice_get-set_other : {X : Type 0} (xs : List X) (i j : ℕ) (a : X) → j ≢ i → slice_get (set xs i a) j ≡ slice_get xs j
-slice_get-set_other [] i j a ne = refl
-slice_get-set_other (x ∷ xs) zero zero a ne = absurd (ne refl)
-slice_get-set_other (x ∷ xs) zero (suc j) a ne = refl
-slice_get-set_other (x ∷ xs) (suc i) zero a ne = refl
-slice_get-set_other (x ∷ xs) (suc i) (suc j) a ne = slice_get-set_other xs i j a (λ e. ne (ap suc e))
-
-abbrev nobody : Option ℕ
-nobody = None
-
-abbrev none_at : Option ℕ → ℕ
-none_at x = cond (is_none x) 1 0
-
--- where a list of places has an extent without, the count of those is not 0
-count-some : (places : List (Option ℕ)) (e : ℕ) → slice_get places e ≡ Some None → 1 ≤ count_by is_none places
-count-some places e h =
-    let inside = slice_get_within places e None h in
-    let at : get_or places e nobody ≡ None = get_or_from_slice_get places e None nobody h in
-    let s = sum_by-set none_at places e (Some 0) nobody inside in
-    let one : none_at (get_or places e nobody) ≡ none_at nobody = ap none_at at in
-    omega (arith, s, one)
-
--- and it is 0 where none is without
-count-none : (places : List (Option ℕ)) → ((k : ℕ) → slice_get places k ≢ Some None) → count_by is_none places ≡ 0
-count-none [] h = refl
-count-none (None ∷ places) h = absurd (h 0 refl)
-count-none (Some q ∷ places) h = let rest = count-none places (λ k. h (suc k)) in let s = sum_by-cons none_at (Some q) places in omega (arith, s, rest)
-
-count-replicate : (n : ℕ) → count_by is_none (replicate n nobody) ≡ n
-count-replicate zero = refl
-count-replicate (suc n) = let rest = count-replicate n in let s = sum_by-cons none_at nobody (replicate n nobody) in omega (arith, s, rest)
-
-replicate-free : (n k q : ℕ) → slice_get (replicate n nobody) k ≢ Some (Some q)
-replicate-free zero k q h = cc
-replicate-free (suc n) zero q h = cc
-replicate-free (suc n) (suc k) q h = replicate-free n k q h
-
-tracks-start : (n : ℕ) → Tracks [] (replicate n None)
-tracks-start n = record {
-  each = λ q b. absurd (omega arith);
-  found = λ e q h. absurd (replicate-free n e q h);
-  count = let c = count-replicate n in let l = length-replicate n nobody in omega (arith, c, l);
-}
-
-pub kept-start : (plan : Planned) (claims places : List (Option ℕ)) (out : List ℕ) (room : ℕ) → IsPlan plan.size plan.extents → claims ≡ replicate (length plan.extents) None → places ≡ replicate (length plan.extents) None → out ≡ [] → length plan.extents ≤ room → IsKept plan claims out places room
-kept-start plan claims places out room valid c p o r = record {
+pub kept-start : (plan : Planned) (standings : List Standing) (out : List ℕ) (room : ℕ) → IsPlan plan.size plan.extents → standings ≡ replicate (length plan.extents) Free → out ≡ [] → length plan.extents ≤ room → IsKept plan standings out room
+kept-start plan standings out room valid p o r = record {
   plan_valid = valid;
-  claims_count = ap length c ∙ length-replicate (length plan.extents) nobody;
-  places_count = ap length p ∙ length-replicate (length plan.extents) nobody;
-  tracks = (let P : List (Option ℕ) → Type 0 = λ l. Tracks [] l in let Q : List ℕ → Type 0 = λ l. Tracks l places in subst Q (sym o) (subst P (sym p) (tracks-start (length plan.extents))));
+  count = ap length p ∙ length-replicate (length plan.extents) free;
+  tracks = (
+      let P : List (Option ℕ) → Type 0 = λ l. Tracks [] l in
+      let Q : List ℕ → Type 0 = λ l. Tracks l (map place_of standings) in
+      subst Q (sym o) (subst P (sym (ap (map place_of) p ∙ places-start (length plan.extents))) (tracks-start (length plan.extents))));
   room_left = r;
 }
 
--- an extent that has no place is not published, and one that has is
-pub tracks-free : (out : List ℕ) (places : List (Option ℕ)) (e : ℕ) → Tracks out places → slice_get places e ≡ Some None → ¬ (Contains out e)
-tracks-free out places e t h c =
-    let at : get_or out c.0 0 ≡ e = get_or_default out c.0 0 e c.1 ∙ c.2 in
-    let placed : slice_get places e ≡ Some (Some c.0) = ap (slice_get places) (sym at) ∙ t.each c.0 c.1 in
-    let wrong : ◌≡◌ {A = Option (Option ℕ)} (Some None) (Some (Some c.0)) = sym h ∙ placed in
-    cc
-
-pub tracks-taken : (out : List ℕ) (places : List (Option ℕ)) (e q : ℕ) → Tracks out places → slice_get places e ≡ Some (Some q) → Contains out e
-tracks-taken out places e q t h =
-    let f = t.found e q h in (q, f.0, get_or_default out q e 0 f.0 ∙ f.1)
-
--- there is room for an extent that is not published
-pub tracks-room : (out : List ℕ) (places : List (Option ℕ)) (e : ℕ) → Tracks out places → slice_get places e ≡ Some None → length out < length places
-tracks-room out places e t h = let some = count-some places e h in omega (arith, t.count)
-
-tracks-more-each : (out : List ℕ) (places : List (Option ℕ)) (e q : ℕ) → Tracks out places → slice_get places e ≡ Some None → q < length (out ++ e ∷ []) → slice_get (set places e (Some (length out))) (get_or (out ++ e ∷ []) q 0) ≡ Some (Some q)
-tracks-more-each out places e q t h b =
-    let n = length_push out e in
-    let inside = slice_get_within places e None h in
-    elim (cases_eq q (length out)) [
-      | inl same ↦
-          ap (slice_get (set places e (Some (length out)))) (get_or_push out e 0 q (sym same)) ∙ slice_get-set_same places e (Some (length out)) inside ∙ ap (λ k. Some (Some k)) (sym same)
-      | inr other ↦ (
-          let before : q < length out = omega arith in
-          let read : get_or (out ++ e ∷ []) q 0 ≡ get_or out q 0 = get_or_append_left out (e ∷ []) 0 q before in
-          let had : slice_get places (get_or out q 0) ≡ Some (Some q) = t.each q before in
-          let differ : get_or out q 0 ≢ e = λ s. (let wrong : ◌≡◌ {A = Option (Option ℕ)} (Some None) (Some (Some q)) = sym h ∙ ap (slice_get places) (sym s) ∙ had in cc) in
-          ap (slice_get (set places e (Some (length out)))) read ∙ slice_get-set_other places e (get_or out q 0) (Some (length out)) differ ∙ had)
-    ]
-
-tracks-more-found : (out : List ℕ) (places : List (Option ℕ)) (e k q : ℕ) → Tracks out places → slice_get places e ≡ Some None → slice_get (set places e (Some (length out))) k ≡ Some (Some q) → (q < length (out ++ e ∷ [])) × (get_or (out ++ e ∷ []) q 0 ≡ k)
-tracks-more-found out places e k q t h g =
-    let n = length_push out e in
-    let inside = slice_get_within places e None h in
-    elim (cases_eq k e) [
-      | inl same ↦ (
-          let there : slice_get (set places e (Some (length out))) k ≡ Some (Some (length out)) = ap (slice_get (set places e (Some (length out)))) same ∙ slice_get-set_same places e (Some (length out)) inside in
-          let wrapped : ◌≡◌ {A = Option (Option ℕ)} (Some (Some q)) (Some (Some (length out))) = sym g ∙ there in
-          let last : q ≡ length out = same_Some q (length out) (same_Some (Some q) (Some (length out)) wrapped) in
-          (omega arith, get_or_push out e 0 q (sym last) ∙ sym same))
-      | inr other ↦ (
-          let f = t.found k q (sym (slice_get-set_other places e k (Some (length out)) other) ∙ g) in
-          (omega (arith, f.0), get_or_append_left out (e ∷ []) 0 q f.0 ∙ f.1))
-    ]
-
-tracks-more : (out : List ℕ) (places : List (Option ℕ)) (e : ℕ) → Tracks out places → slice_get places e ≡ Some None → Tracks (out ++ e ∷ []) (set places e (Some (length out)))
-tracks-more out places e t h = record {
-  each = λ q b. tracks-more-each out places e q t h b;
-  found = λ k q g. tracks-more-found out places e k q t h g;
-  count =
-      let n = length_push out e in
-      let l = length-set places e (Some (length out)) in
-      let at : get_or places e nobody ≡ None = get_or_from_slice_get places e None nobody h in
-      let one : none_at (get_or places e nobody) ≡ none_at nobody = ap none_at at in
-      let s = sum_by-set none_at places e (Some (length out)) nobody (slice_get_within places e None h) in
-      omega (arith, n, l, one, s, t.count);
+pub kept-claimed : (plan : Planned) (standings : List Standing) (out : List ℕ) (room e by : ℕ) → IsKept plan standings out room → slice_get standings e ≡ Some Free → IsKept plan (set standings e (Claimed by)) out room
+kept-claimed plan standings out room e by k h = record {
+  plan_valid = k.plan_valid;
+  count = length-set standings e (Claimed by) ∙ k.count;
+  tracks = (let P : List (Option ℕ) → Type 0 = λ l. Tracks out l in subst P (sym (places-claimed standings e by h)) k.tracks);
+  room_left = k.room_left;
 }
 
-pub kept-more : (plan : Planned) (claims places : List (Option ℕ)) (out : List ℕ) (room more e : ℕ) → IsKept plan claims out places room → slice_get places e ≡ Some None → room ≤ more → IsKept plan claims (out ++ e ∷ []) (set places e (Some (length out))) more
-kept-more plan claims places out room more e k h m = record {
+kept-more : (plan : Planned) (standings : List Standing) (out : List ℕ) (room more e by : ℕ) → IsKept plan standings out room → slice_get standings e ≡ Some (Claimed by) → room ≤ more → IsKept plan (set standings e (stands.TheVariants.Published (length out))) (out ++ e ∷ []) more
+kept-more plan standings out room more e by k h m = record {
   plan_valid = k.plan_valid;
-  claims_count = k.claims_count;
-  places_count = length-set places e (Some (length out)) ∙ k.places_count;
-  tracks = tracks-more out places e k.tracks h;
+  count = length-set standings e (stands.TheVariants.Published (length out)) ∙ k.count;
+  tracks = (
+      let P : List (Option ℕ) → Type 0 = λ l. Tracks (out ++ e ∷ []) l in
+      subst P (sym (map-set place_of standings e (stands.TheVariants.Published (length out)))) (tracks-more out (map place_of standings) e k.tracks (place-claimed standings e by h)));
   room_left = omega (arith, k.room_left);
 }
 
-published_by : (out : List ℕ) (places : List (Option ℕ)) → Tracks out places → length places ≤ length out → (k : ℕ) (x : Option ℕ) → slice_get places k ≡ Some x → Contains out k
-published_by out places t all k None h = absurd (let few = tracks-room out places k t h in omega arith)
-published_by out places t all k (Some q) h = tracks-taken out places k q t h
+pub complete-iff : (plan : Planned) (standings : List Standing) (out : List ℕ) (room : ℕ) (b : Bool) → IsKept plan standings out room → b ≡ leb (length standings) (length out) → (b ≡ true → (k : ℕ) → k < length plan.extents → Contains out k) × (((k : ℕ) → k < length plan.extents → Contains out k) → b ≡ true)
+complete-iff plan standings out room b k is =
+    let places = map place_of standings in
+    let n : length places ≡ length standings = length-map standings place_of in (
+      λ e i inside.
+          let all = leb_tells (length standings) (length out) in
+          let few : length standings ≤ length out = grind (arith, nat_tests) in
+          tracks-complete out places k.tracks (omega arith) i (omega (arith, k.count)),
+      λ all. elim (leb_tells (length standings) (length out)) [
+        | inl x ↦ is ∙ x.0
+        | inr y ↦ absurd (tracks-incomplete out places k.tracks (omega (arith, y.1)) (λ i inside. all i (omega (arith, k.count))))
+      ],
+    )
 
--- all are published where there are as many as extents, and only there
-pub tracks-complete : (out : List ℕ) (places : List (Option ℕ)) → Tracks out places → length places ≤ length out → (k : ℕ) → k < length places → Contains out k
-tracks-complete out places t all k b = published_by out places t all k (get_or places k nobody) (slice_get-get_or places k nobody b)
+-- the claimants of a history
+abbrev claimants_of : List Published → List ℕ
+claimants_of history = map (λ p. p.claimant) history
 
-pub tracks-incomplete : (out : List ℕ) (places : List (Option ℕ)) → Tracks out places → length out < length places → ¬ ((k : ℕ) → k < length places → Contains out k)
-tracks-incomplete out places t few all =
-    let none = count-none places (λ k h. tracks-free out places k t h (all k (slice_get_within places k None h))) in
-    omega (arith, t.count, none)
-
-free_by : (out : List ℕ) (places : List (Option ℕ)) (e : ℕ) (x : Option ℕ) → Tracks out places → ¬ (Contains out e) → slice_get places e ≡ Some x → slice_get places e ≡ Some None
-free_by out places e None t not h = h
-free_by out places e (Some q) t not h = absurd (not (tracks-taken out places e q t h))
-
--- an extent of the plan that is not published has no place, and there is room for it
-pub kept-unpublished : (plan : Planned) (claims places : List (Option ℕ)) (out : List ℕ) (room e : ℕ) → IsKept plan claims out places room → e < length plan.extents → ¬ (Contains out e) → slice_get places e ≡ Some None
-kept-unpublished plan claims places out room e k b not =
-    free_by out places e (get_or places e nobody) k.tracks not (slice_get-get_or places e nobody (omega (arith, k.places_count)))
-
-pub contains-from_placed : (out : List ℕ) (places : List (Option ℕ)) (e : ℕ) → Tracks out places → IsPlaced places e → Contains out e
-contains-from_placed out places e t p = tracks-taken out places e p.0 t p.1
-
-pub placed-from_contains : (out : List ℕ) (places : List (Option ℕ)) (e : ℕ) → Tracks out places → Contains out e → IsPlaced places e
-placed-from_contains out places e t c =
-    let at : get_or out c.0 0 ≡ e = get_or_default out c.0 0 e c.1 ∙ c.2 in
-    (c.0, ap (slice_get places) (sym at) ∙ t.each c.0 c.1)
-
-pub published-iff : (b : Bool) (out : List ℕ) (places : List (Option ℕ)) (e : ℕ) → Tracks out places → MatchBool b (IsPlaced places e) (¬ (IsPlaced places e)) → (b ≡ true → Contains out e) × (Contains out e → b ≡ true)
-published-iff true out places e t h = (λ _. contains-from_placed out places e t h, λ _. refl)
-published-iff false out places e t h = (λ w. absurd (false≢true w), λ c. absurd (h (placed-from_contains out places e t c)))
-
-pub complete-iff : (plan : Planned) (claims places : List (Option ℕ)) (out : List ℕ) (room : ℕ) (b : Bool) → IsKept plan claims out places room → b ≡ leb (length places) (length out) → (b ≡ true → (k : ℕ) → k < length plan.extents → Contains out k) × (((k : ℕ) → k < length plan.extents → Contains out k) → b ≡ true)
-complete-iff plan claims places out room b k is = (
-  λ e n inside.
-      let all = leb_tells (length places) (length out) in
-      let few : length places ≤ length out = grind (arith, nat_tests) in
-      tracks-complete out places k.tracks few n (omega (arith, k.places_count)),
-  λ all. elim (leb_tells (length places) (length out)) [
-    | inl x ↦ is ∙ x.0
-    | inr y ↦ absurd (tracks-incomplete out places k.tracks y.1 (λ n inside. all n (omega (arith, k.places_count))))
-  ],
-)
-
--- what is known of the extent of a publication that may join the history: s and p are t and q as the code has them
-pub record IsNext (s : CoreState) (p : Published) (places : List (Option ℕ)) (room : ℕ) : Type 0 where
-  pub planned : p.extent < length places
-  pub free : slice_get places p.extent ≡ Some None
+-- what is known of a publication that may join the history: s and p are t and q as the code has them
+pub record IsNext (s : CoreState) (p : Published) (standings : List Standing) (room : ℕ) : Type 0 where
+  pub held : slice_get standings p.extent ≡ Some (Claimed p.claimant)
+  pub planned : p.extent < length standings
   pub room_left : length s.history < room
   pub few : length s.history < 65536
 
-next_at : (s : CoreState) (p : Published) (places : List (Option ℕ)) (room : ℕ) → IsKept s.plan s.claims (extents_out s.history) places room → MayPublish s p → IsNext s p places room
-next_at s p places room k may =
-    let inside : p.extent < length s.plan.extents = omega (arith, slice_get_within s.claims p.extent (Some p.claimant) may.claimed, k.claims_count) in
-    let free = kept-unpublished s.plan s.claims places (extents_out s.history) room p.extent k inside may.unpublished in
-    let left = tracks-room (extents_out s.history) places p.extent k.tracks free in
-    let n : length (extents_out s.history) ≡ length s.history = length-map s.history (λ q. q.extent) in
+next_at : (s : CoreState) (p : Published) (standings : List Standing) (room : ℕ) → s.claims ≡ map (claim_of (claimants_of s.history)) standings → IsKept s.plan standings (extents_out s.history) room → MayPublish s p → IsNext s p standings room
+next_at s p standings room is k may =
+    let claimed = ap (λ l. slice_get l p.extent) (sym is) ∙ may.claimed in
+    let held = (awaited-iff (claimants_of s.history) (extents_out s.history) standings p.extent p.claimant k.tracks).1 (claimed, may.unpublished) in
+    let inside = slice_get_within standings p.extent (Claimed p.claimant) held in
+    let left = tracks-room (extents_out s.history) (map place_of standings) p.extent k.tracks (place-claimed standings p.extent p.claimant held) in
+    let n : length (map place_of standings) ≡ length standings = length-map standings place_of in
+    let m : length (extents_out s.history) ≡ length s.history = length-map s.history (λ q. q.extent) in
     record {
-      planned = omega (arith, k.places_count);
-      free = free;
-      room_left = omega (arith, k.room_left, k.places_count);
-      few = omega (arith, k.plan_valid.few, k.places_count);
+      held = held;
+      planned = inside;
+      room_left = omega (arith, left, n, m, k.room_left, k.count);
+      few = omega (arith, left, n, m, k.plan_valid.few, k.count);
     }
 
-pub publish-next : (s t : CoreState) (p q : Published) (places : List (Option ℕ)) (room : ℕ) → s ≡ t → p ≡ q → IsKept s.plan s.claims (extents_out s.history) places room → MayPublish t q → IsNext s p places room
-publish-next s t p q places room st pq k may =
+pub publish-next : (s t : CoreState) (p q : Published) (standings : List Standing) (room : ℕ) → s ≡ t → p ≡ q → s.claims ≡ map (claim_of (claimants_of s.history)) standings → IsKept s.plan standings (extents_out s.history) room → MayPublish t q → IsNext s p standings room
+publish-next s t p q standings room st pq is k may =
     let P : CoreState → Type 0 = λ u. MayPublish u p in
     let Q : Published → Type 0 = λ u. MayPublish t u in
-    next_at s p places room k (subst P (sym st) (subst Q (sym pq) may))
+    next_at s p standings room is k (subst P (sym st) (subst Q (sym pq) may))
 
-pub kept-published : (plan : Planned) (claims places : List (Option ℕ)) (before after : List Published) (p : Published) (room more e n : ℕ) → IsKept plan claims (extents_out before) places room → slice_get places e ≡ Some None → after ≡ before ++ p ∷ [] → p.extent ≡ e → n ≡ length before → room ≤ more → IsKept plan claims (extents_out after) (set places e (Some n)) more
-kept-published plan claims places before after p room more e n k free joined is count m =
+pub kept-published : (plan : Planned) (standings : List Standing) (before after : List Published) (p : Published) (room more e n by : ℕ) → IsKept plan standings (extents_out before) room → slice_get standings e ≡ Some (Claimed by) → after ≡ before ++ p ∷ [] → p.extent ≡ e → n ≡ length before → room ≤ more → IsKept plan (set standings e (stands.TheVariants.Published n)) (extents_out after) more
+kept-published plan standings before after p room more e n by k held joined is count m =
     let out : extents_out after ≡ extents_out before ++ e ∷ [] = ap extents_out joined ∙ map-append (λ q. q.extent) before (p ∷ []) ∙ ap (λ x. extents_out before ++ x ∷ []) is in
     let same : n ≡ length (extents_out before) = count ∙ sym (length-map before (λ q. q.extent)) in
-    let P : List ℕ → Type 0 = λ o. IsKept plan claims o (set places e (Some n)) more in
-    let Q : ℕ → Type 0 = λ x. IsKept plan claims (extents_out before ++ e ∷ []) (set places e (Some x)) more in
-    subst P (sym out) (subst Q (sym same) (kept-more plan claims places (extents_out before) room more e k free m))
+    let P : List ℕ → Type 0 = λ o. IsKept plan (set standings e (stands.TheVariants.Published n)) o more in
+    let Q : ℕ → Type 0 = λ x. IsKept plan (set standings e (stands.TheVariants.Published x)) (extents_out before ++ e ∷ []) more in
+    subst P (sym out) (subst Q (sym same) (kept-more plan standings (extents_out before) room more e by k held m))
+
+-- a publication that joins the history changes no claim
+pub claims-joined : (standings : List Standing) (before after : List Published) (p : Published) (e n by : ℕ) → Tracks (extents_out before) (map place_of standings) → slice_get standings e ≡ Some (Claimed by) → after ≡ before ++ p ∷ [] → p.claimant ≡ by → n ≡ length before → map (claim_of (claimants_of after)) (set standings e (stands.TheVariants.Published n)) ≡ map (claim_of (claimants_of before)) standings
+claims-joined standings before after p e n by t held joined is count =
+    let m : length (claimants_of before) ≡ length before = length-map before (λ q. q.claimant) in
+    let k : length (extents_out before) ≡ length before = length-map before (λ q. q.extent) in
+    let out : claimants_of after ≡ claimants_of before ++ by ∷ [] = ap claimants_of joined ∙ map-append (λ q. q.claimant) before (p ∷ []) ∙ ap (λ x. claimants_of before ++ x ∷ []) is in
+    ap (λ l. map (claim_of l) (set standings e (stands.TheVariants.Published n))) out
+    ∙ ap (λ x. map (claim_of (claimants_of before ++ by ∷ [])) (set standings e (stands.TheVariants.Published x))) (count ∙ sym m)
+    ∙ claims-published (claimants_of before) standings e by (λ f q h. omega (arith, inside-tracked (extents_out before) standings t f q h)) held
+
+-- the states that the code makes are those of the steps: s is the fields' and t as a caller has it
+pub state-start : (plan : Planned) (passes sessions : ℕ) (standings : List Standing) (history : List Published) → standings ≡ replicate (length plan.extents) Free → history ≡ [] → record { plan = plan; passes = passes; sessions = sessions; claims = map (claim_of (claimants_of history)) standings; history = history; finished = false } ≡ start plan passes sessions
+state-start plan passes sessions standings history all none =
+    let claims = ap (λ h. map (claim_of (claimants_of h)) standings) none ∙ ap (λ l. map (claim_of []) l) all ∙ claims-start (length plan.extents) in
+    let F : List (Option ℕ) → List Published → CoreState = λ l h. record { plan = plan; passes = passes; sessions = sessions; claims = l; history = h; finished = false } in
+    ap (λ l. F l history) claims ∙ ap (λ h. F (replicate (length plan.extents) None) h) none
+
+pub free-next : (s t : CoreState) (standings : List Standing) (room e : ℕ) → s ≡ t → s.claims ≡ map (claim_of (claimants_of s.history)) standings → IsKept s.plan standings (extents_out s.history) room → slice_get t.claims e ≡ Some None → slice_get standings e ≡ Some Free
+free-next s t standings room e st is k h =
+    let n : length (claimants_of s.history) ≡ length (extents_out s.history) = length-map s.history (λ q. q.claimant) ∙ sym (length-map s.history (λ q. q.extent)) in
+    (free-iff (claimants_of s.history) (extents_out s.history) standings e k.tracks n).1 (ap (λ l. slice_get l e) (sym is) ∙ ap (λ u. slice_get u.claims e) st ∙ h)
+
+pub step-claimed : (s t : CoreState) (standings : List Standing) (room by e : ℕ) → s ≡ t → s.claims ≡ map (claim_of (claimants_of s.history)) standings → IsKept s.plan standings (extents_out s.history) room → s.finished ≡ false → by < s.passes → slice_get t.claims e ≡ Some None → IsStep t (Event.Claim by e) (record s { claims = map (claim_of (claimants_of s.history)) (set standings e (Claimed by)) })
+step-claimed s t standings room by e st is k going pass h =
+    let inside = slice_get_within standings e Free (free-next s t standings room e st is k h) in
+    let claims : map (claim_of (claimants_of s.history)) (set standings e (Claimed by)) ≡ set s.claims e (Some by) = map-set (claim_of (claimants_of s.history)) standings e (Claimed by) ∙ ap (λ l. set l e (Some by)) (sym is) in
+    let P : CoreState → Type 0 = λ u. slice_get u.claims e ≡ Some None in
+    let may : MayClaim s by e = record { going = going; pass = pass; planned = omega (arith, inside, k.count); free = subst P (sym st) h } in
+    let Q : CoreState → Type 0 = λ u. IsStep u (Event.Claim by e) (record s { claims = map (claim_of (claimants_of s.history)) (set standings e (Claimed by)) }) in
+    subst Q st (may, ap (λ l. record s { claims = l }) claims)
+
+pub step-published : (s t : CoreState) (p : Published) (claims : List (Option ℕ)) (after : List Published) → s ≡ t → MayPublish t p → claims ≡ s.claims → after ≡ s.history ++ p ∷ [] → IsStep t (Event.Publish p) (record s { claims = claims; history = after })
+step-published s t p claims after st may same joined =
+    let F : List (Option ℕ) → List Published → CoreState = λ l h. record s { claims = l; history = h } in
+    let G : CoreState → CoreState = λ u. record u { history = u.history ++ p ∷ [] } in
+    (may, ap (λ l. F l after) same ∙ ap (λ h. F s.claims h) joined ∙ ap (λ u. G u) st)

@@ -202,14 +202,3 @@ kinds_of-more size es history at done part each short =
     let inside : k < done + part = omega arith in
     let left = get_or-map-range_with_len f at (done + part) k (at + k) d inside refl in
     left ∙ sym (part_at size es history at done part k d each short inside))
-
-none_by : (o : Option ℕ) → ((x : ℕ) → o ≢ Some x) → o ≡ None
-none_by None h = refl
-none_by (Some x) h = absurd (h x refl)
-
--- a place that is read and is none
-pub free_at : (places : List (Option ℕ)) (n : ℕ) → n < length places → ((x : ℕ) → get_or places n None ≢ Some x) → slice_get places n ≡ Some None
-free_at places n b h = slice_get-get_or places n None b ∙ ap Some (none_by (get_or places n None) h)
-
-pub placed_at : (places : List (Option ℕ)) (n q : ℕ) → n < length places → get_or places n None ≡ Some q → slice_get places n ≡ Some (Some q)
-placed_at places n q b h = slice_get-get_or places n None b ∙ ap Some h

@@ -3,3 +3,5 @@ pub mod EventLists
 pub mod Kept
 pub mod KindLists
 pub mod RunLists
+pub mod Standings
+pub mod Tracks

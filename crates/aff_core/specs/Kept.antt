@@ -1,6 +1,8 @@
 -- What a state keeps beside its lists, so that each event takes a few steps.
-use Rattle.std.specs.Prelude.{◌≡◌, ℕ, ◌+◌, ◌<◌, ◌≤◌, Option, Some, List, length, count_by, slice_get, slice_index}
+use Rattle.std.specs.Prelude.{◌≡◌, ℕ, ◌+◌, ◌<◌, ◌≤◌, Option, None, Some, List, length, map, count_by, slice_get, slice_index}
 use Rattle.std.specs.Option.{is_none}
+use Rattle.aff_core.specs.declared.standing.Standing.{Standing}
+use Rattle.aff_core.specs.declared.standing.Standing.TheVariants.{Free, Claimed, Published}
 use Rattle.aff_model.specs.Plan.{Planned, IsPlan}
 
 -- for each extent its place among the published numbers, or none
@@ -9,14 +11,20 @@ pub record Tracks (out : List ℕ) (places : List (Option ℕ)) : Type 0 where
   pub found : (e q : ℕ) → slice_get places e ≡ Some (Some q) → (q < length out) × (slice_index out q ≡ e)
   pub count : length out + count_by is_none places ≡ length places
 
--- an extent has a place
-abbrev pub IsPlaced : List (Option ℕ) → ℕ → Type 0
-IsPlaced places e = (q : ℕ) × (slice_get places e ≡ Some (Some q))
+-- the claimant of an extent by those of the history, and its place in the history
+abbrev pub claim_of : List ℕ → Standing → Option ℕ
+claim_of claimants Free = None
+claim_of claimants (Claimed by) = Some by
+claim_of claimants (Published place) = slice_get claimants place
 
--- claims and places are as many as the extents, and there is room for a publication of each
-pub record IsKept (plan : Planned) (claims : List (Option ℕ)) (out : List ℕ) (places : List (Option ℕ)) (room : ℕ) : Type 0 where
+abbrev pub place_of : Standing → Option ℕ
+place_of Free = None
+place_of (Claimed by) = None
+place_of (Published place) = Some place
+
+-- standings are as many as the extents, and there is room for a publication of each
+pub record IsKept (plan : Planned) (standings : List Standing) (out : List ℕ) (room : ℕ) : Type 0 where
   pub plan_valid : IsPlan plan.size plan.extents
-  pub claims_count : length claims ≡ length plan.extents
-  pub places_count : length places ≡ length plan.extents
-  pub tracks : Tracks out places
+  pub count : length standings ≡ length plan.extents
+  pub tracks : Tracks out (map place_of standings)
   pub room_left : length plan.extents ≤ room

@@ -6,6 +6,7 @@ mod event;
 mod law;
 mod machine;
 mod runs;
+mod standing;
 mod state;
 
 pub use event::{CoreError, Event, Refused};

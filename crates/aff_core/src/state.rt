@@ -1,8 +1,7 @@
 //! A state of the core, and the events that change it.
-ghost use Rattle.std.specs.Prelude.{◌≡◌, ◌≢◌, ℕ, ◌+◌, ◌<◌, ◌≤◌, ◌↔◌, None, Some, IsTrue, IfOk, OnOk, OnErr, All, Contains, length, IsSomeAnd, slice_get, vec_capacity, if◌then◌else◌};
+ghost use Rattle.std.specs.Prelude.{◌≡◌, ◌≢◌, ℕ, ◌+◌, ◌<◌, ◌≤◌, ◌↔◌, None, Some, IsTrue, IfOk, OnOk, OnErr, All, Contains, length, map, IsSomeAnd, slice_get, vec_capacity, if◌then◌else◌};
 ghost use Rattle.aff_core.specs.declared.event.Event.{Event};
-ghost use Rattle.std.specs.Bool.{MatchBool};
-ghost use Rattle.aff_core.specs.Kept.{IsKept, IsPlaced, Tracks};
+ghost use Rattle.aff_core.specs.Kept.{IsKept, Tracks, place_of};
 ghost use Rattle.aff_core.specs.Kinds.{IsAnswer, kind_at};
 ghost use Rattle.aff_core.specs.Steps.{CoreState, HasNoStep, IsShaped, IsStep, MayClaim, MayFinish, MayPublish, MayRaise, MayRead, extents_out, start};
 ghost use Rattle.aff_model.specs.Cells.{is_bad_at};
@@ -10,30 +9,29 @@ ghost use Rattle.aff_model.specs.Legal.{IsComplete};
 ghost use Rattle.aff_model.specs.Plan.{has_place};
 
 use crate::runs::add_run;
+use crate::standing::{Standing, is_free, is_held};
 use crate::{Event, Refused};
 use aff_model::{CHUNK, Extent, Kind, Memory, Plan, Publication, Run, SECTOR};
 use std::alloc::{AllocError, Global};
 use std::marker::Model;
 
 /// Who claims what, the history, and whether Finish has come. All memory that events need is taken by `new`:
-/// 16 bytes an extent and the history's own size.
+/// 8 bytes an extent and the history's own size.
 #[derive(Drop)]
 pub struct State<'p> {
     alloc: Global,
     plan: &'p Plan,
     passes: u32,
     sessions: u32,
-    /// The claimant of each extent.
-    claims: Vec<Option<u32>>,
-    /// The place of each extent in the history.
-    places: Vec<Option<u32>>,
+    /// How far each extent has come. The claimant of a published one is its publication's.
+    standings: Vec<Standing>,
     history: Vec<Publication>,
     finished: bool,
 }
 
 impl<'p> Model for State<'p> {
     ghost use Rattle.std.specs.Prelude.{map, vec_capacity};
-    ghost use Rattle.aff_core.specs.Kept.{IsKept};
+    ghost use Rattle.aff_core.specs.Kept.{IsKept, claim_of};
     ghost use Rattle.aff_core.specs.Steps.{CoreState, extents_out};
 
     ghost Value = { CoreState };
@@ -42,12 +40,12 @@ impl<'p> Model for State<'p> {
       plan = s.plan.now;
       passes = s.passes;
       sessions = s.sessions;
-      claims = s.claims.items;
+      claims = map (claim_of (map (λ p. p.claimant) s.history.items)) s.standings.items;
       history = s.history.items;
       finished = s.finished;
     } };
 
-    ghost invariant = { λ s. IsKept s.plan.now s.claims.items (extents_out s.history.items) s.places.items (vec_capacity s.history) };
+    ghost invariant = { λ s. IsKept s.plan.now s.standings.items (extents_out s.history.items) (vec_capacity s.history) };
 }
 
 impl<'p> State<'p> {
@@ -66,8 +64,7 @@ impl<'p> State<'p> {
             plan,
             passes,
             sessions,
-            claims: Vec::from_elem(alloc, None, count).map_err(|_| Memory)?,
-            places: Vec::from_elem(alloc, None, count).map_err(|_| Memory)?,
+            standings: Vec::from_elem(alloc, Standing::Free, count).map_err(|_| Memory)?,
             history: Vec::with_capacity(alloc, count).map_err(|_| Memory)?,
             finished: false,
         })
@@ -123,7 +120,7 @@ impl<'p> State<'p> {
     fn kind(&self, at: u64) -> Kind
         ensures { result ≡ kind_at self.now.plan.extents self.now.history at }
     {
-        kind_in(self.plan, &self.places, &self.history, at)
+        kind_in(self.plan, &self.standings, &self.history, at)
     }
 
     fn claim(&mut self, claimant: u32, extent: u32) -> Result<(), Refused>
@@ -134,12 +131,17 @@ impl<'p> State<'p> {
         if self.finished || claimant >= self.passes {
             return Err(Refused);
         }
-        match self.claims.get(extent as usize) {
-            Some(None) => {}
-            _ => return Err(Refused),
+        if !self.is_free(extent) {
+            return Err(Refused);
         }
-        self.claims[extent as usize] = Some(claimant);
+        self.standings[extent as usize] = Standing::Claimed(claimant);
         Ok(())
+    }
+
+    fn is_free(&self, extent: u32) -> bool
+        ensures { IsTrue result ↔ (slice_get self.now.claims extent ≡ Some None) }
+    {
+        is_free(&self.standings, extent)
     }
 
     fn read(&self, session: u32, at: u64, len: u64, front: u64) -> Result<(), Refused>
@@ -182,7 +184,7 @@ impl<'p> State<'p> {
     fn is_complete(&self) -> bool
         ensures { IsTrue result ↔ IsComplete self.now.plan.extents self.now.history }
     {
-        self.history.len() >= self.places.len()
+        self.history.len() >= self.standings.len()
     }
 
     fn publish(&mut self, publication: Publication) -> Result<(), Refused>
@@ -196,7 +198,7 @@ impl<'p> State<'p> {
         let extent = publication.extent as usize;
         let place = self.history.len() as u32;
         self.history.push(publication).unwrap();
-        self.places[extent] = Some(place);
+        self.standings[extent] = Standing::Published(place);
         Ok(())
     }
 
@@ -204,24 +206,15 @@ impl<'p> State<'p> {
         ensures { IsTrue result ↔ MayPublish self.now publication.now }
     {
         !self.finished
-            && self.is_claimed(publication.extent, publication.claimant)
-            && !self.is_published(publication.extent)
+            && self.is_awaited(publication.extent, publication.claimant)
             && self.has_shape(publication)
     }
 
-    fn is_claimed(&self, extent: u32, claimant: u32) -> bool
-        ensures { IsTrue result ↔ (slice_get self.now.claims extent ≡ Some (Some claimant)) }
+    // Whether an extent is the claimant's and not published.
+    fn is_awaited(&self, extent: u32, claimant: u32) -> bool
+        ensures { IsTrue result ↔ (slice_get self.now.claims extent ≡ Some (Some claimant)) × ¬ (Contains (extents_out self.now.history) extent) }
     {
-        match self.claims.get(extent as usize) {
-            Some(Some(by)) => *by == claimant,
-            _ => false,
-        }
-    }
-
-    fn is_published(&self, extent: u32) -> bool
-        ensures { IsTrue result ↔ Contains (extents_out self.now.history) extent }
-    {
-        is_placed(&self.places, extent)
+        is_held(&self.standings, extent, claimant)
     }
 
     fn has_shape(&self, publication: &Publication) -> bool
@@ -234,16 +227,16 @@ impl<'p> State<'p> {
     }
 }
 
-fn kind_in(plan: &Plan, places: &[Option<u32>], history: &[Publication], at: u64) -> Kind
-    requires count { length places.now ≡ length plan.now.extents }
-    requires tracks { Tracks (extents_out history.now) places.now }
+fn kind_in(plan: &Plan, standings: &[Standing], history: &[Publication], at: u64) -> Kind
+    requires count { length standings.now ≡ length plan.now.extents }
+    requires tracks { Tracks (extents_out history.now) (map place_of standings.now) }
     ensures { result ≡ kind_at plan.now.extents history.now at }
 {
     let extents = plan.extents();
     let Some(number) = plan.find(at) else {
         return Kind::Unknown;
     };
-    let Some(place) = places[number as usize] else {
+    let Standing::Published(place) = standings[number as usize] else {
         return Kind::Unknown;
     };
     kind_published(&extents[number as usize], &history[place as usize], at)
@@ -260,15 +253,6 @@ fn kind_published(extent: &Extent, publication: &Publication, at: u64) -> Kind
         Kind::Unreadable
     } else {
         Kind::Known
-    }
-}
-
-fn is_placed(places: &[Option<u32>], extent: u32) -> bool
-    ensures { MatchBool result (IsPlaced places.now extent) (¬ (IsPlaced places.now extent)) }
-{
-    match places.get(extent as usize) {
-        Some(Some(_)) => true,
-        _ => false,
     }
 }
 

@@ -6,6 +6,6 @@ use Rattle.aff_core.proofs.state.State.is_complete.Goals as goal
 
 pub returns : goal.returns
 returns c =
-    let places : c.len-2.result ≡ length c.self.inside.places.items = c.len-2.ensures ∙ c.self.inside.places.ok.0 in
+    let standings : c.len-2.result ≡ length c.self.inside.standings.items = c.len-2.ensures ∙ c.self.inside.standings.ok.0 in
     let out : c.len.result ≡ length (extents_out c.self.inside.history.items) = c.len.ensures ∙ c.self.inside.history.ok.0 ∙ sym (length-map c.self.inside.history.items (λ p. p.extent)) in
-    rw (← c.self.view_is) (complete-iff _ _ _ _ _ _ c.self.invariant (ap (λ n. leb n c.len.result) places ∙ ap (λ n. leb (length c.self.inside.places.items) n) out))
+    rw (← c.self.view_is) (complete-iff _ _ _ _ _ c.self.invariant (ap (λ n. leb n c.len.result) standings ∙ ap (λ n. leb (length c.self.inside.standings.items) n) out))
