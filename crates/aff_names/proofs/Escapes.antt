@@ -77,7 +77,10 @@ none_contained (b ∷ bytes) none has =
 pub folders_have_no_slash : FoldersHaveNoSlash
 folders_have_no_slash urn = none_contained (folder_name urn) (folder_has_no_slash urn)
 
+-- the folder of a text with the scheme begins with `a`
 pub folders_are_no_dots : FoldersAreNoDots
 folders_are_no_dots urn is_urn =
-    let named = ap folder_name is_urn.is in
-    (λ e. apart_by (folder_name (codes "aff4://" ++ (is_urn.uuid ++ is_urn.path))) (codes ".") refl (sym named ∙ e), λ e. apart_by (folder_name (codes "aff4://" ++ (is_urn.uuid ++ is_urn.path))) (codes "..") refl (sym named ∙ e))
+    let named : folder_name urn ≡ codes "aff4%3A%2F%2F" ++ folder_name (is_urn.uuid ++ is_urn.path) = ap folder_name is_urn.is in (
+      λ e. apart_by _ (codes ".") refl (sym named ∙ e),
+      λ e. apart_by _ (codes "..") refl (sym named ∙ e),
+    )

@@ -84,7 +84,8 @@ IsGood text = (k : ℕ) → 7 ≤ k → k ≤ 43 → may_be_at k (slice_get text
 
 good_is_urn : (bytes : List ℕ) → IsGood (codes "aff4://" ++ bytes) → IsUrn (codes "aff4://" ++ bytes)
 good_is_urn bytes good =
-    let parts = parts_from 36 0 bytes refl (λ j below. let none : j ≡ 0 + j = omega arith in subst (λ i. may_be_at (7 + i) (slice_get bytes j) ≡ true) none (ap (may_be_at (7 + j)) (sym (behind_scheme bytes j)) ∙ good (7 + j) (omega arith) (omega arith))) in
+    let fits = λ (j : ℕ) (below : j ≤ 36). let none : j ≡ 0 + j = omega arith in subst (λ i. may_be_at (7 + i) (slice_get bytes j) ≡ true) none (ap (may_be_at (7 + j)) (sym (behind_scheme bytes j)) ∙ good (7 + j) (omega arith) (omega arith)) in
+    let parts = parts_from 36 0 bytes refl fits in
     record {
       uuid = parts.uuid;
       path = parts.path;
@@ -98,11 +99,10 @@ urn_from_good text scheme good = subst IsUrn (sym scheme.is) (good_is_urn scheme
 
 parts_are_good : (uuid path : List ℕ) → uuid_from 0 uuid ≡ true → IsPath path → IsGood (codes "aff4://" ++ (uuid ++ path))
 parts_are_good uuid path h p k low high =
-    let j : ℕ = k - 7 in
-    let at : 7 + (0 + (k - 7)) ≡ k = omega arith in
     let here : 7 + (k - 7) ≡ k = omega arith in
-    let shown = ap (may_be_at (7 + (0 + (k - 7)))) (behind_scheme (uuid ++ path) (k - 7)) ∙ parts_at 0 uuid path h p (k - 7) (omega arith) in
-    subst (λ i. may_be_at i (slice_get (codes "aff4://" ++ (uuid ++ path)) k) ≡ true) at (subst (λ i. may_be_at (7 + (0 + (k - 7))) (slice_get (codes "aff4://" ++ (uuid ++ path)) i) ≡ true) here shown)
+    let none : 0 + (k - 7) ≡ k - 7 = omega arith in
+    let shown = subst (λ i. may_be_at (7 + i) (slice_get (uuid ++ path) (k - 7)) ≡ true) none (parts_at 0 uuid path h p (k - 7) (omega arith)) in
+    subst (λ i. may_be_at i (slice_get (codes "aff4://" ++ (uuid ++ path)) i) ≡ true) here (ap (may_be_at (7 + (k - 7))) (behind_scheme (uuid ++ path) (k - 7)) ∙ shown)
 
 pub good_from_urn : (text : List ℕ) → IsUrn text → IsGood text
 good_from_urn text urn = subst IsGood (sym urn.is) (parts_are_good urn.uuid urn.path urn.uuid_is urn.path_is)

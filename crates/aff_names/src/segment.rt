@@ -8,7 +8,7 @@ use aff_model::Memory;
 use percent_encoding::{AsciiSet, NON_ALPHANUMERIC, ascii_set, ascii_str, utf8_percent_encode};
 use std::alloc::{AllocError, Global};
 
-// What stands escaped in a folder's name.
+// What a folder's name has escaped: all but letters, digits, `-`, `.` and `_`.
 const ESCAPED: AsciiSet = ascii_set!(NON_ALPHANUMERIC.remove(b'-').remove(b'.').remove(b'_'));
 
 /// The name of the folder in which the segments of a URN lie.
@@ -45,12 +45,10 @@ fn numbered(alloc: Global, text: &str, number: u32, suffix: &str) -> Result<Stri
     requires { number < 100000000 }
     ensures { IfOk result (λ name. string_bytes name ≡ names.segment_in text.now (names.eight_digits number ++ suffix.now)) }
 {
+    let folder = escaped(alloc, text)?;
     let digits = eight_digits(number);
-    let mut name = escaped(alloc, text)?;
-    name.push_str("/")?;
-    name.push_str(ascii_str(&digits))?;
-    name.push_str(suffix)?;
-    Ok(name)
+    let digits = ascii_str(&digits);
+    format!(in alloc; "{folder}/{digits}{suffix}")
 }
 
 // Eight decimal digits, with zeros in front.

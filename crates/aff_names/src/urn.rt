@@ -75,7 +75,7 @@ fn first_bad(bytes: &[u8]) -> Option<u64>
     None
 }
 
-// Whether a URN may have a byte at a place behind the scheme, or may end there.
+// Whether a URN may have a byte at a place behind the scheme, or may end there. The UUID stands from 7 to 42.
 fn may_be_at(at: usize, byte: Option<u8>) -> bool
     requires { 7 ≤ at }
     ensures { result ≡ spec_may_be_at at byte }
