@@ -1,0 +1,5 @@
+use Rattle.aff_names.proofs.Segments.{segments_differ}
+use Rattle.aff_names.proofs.laws.segments_differ.Goals as goal
+
+pub returns : goal.returns
+returns c = segments_differ

@@ -1,0 +1,18 @@
+//! URNs, and the names of folders and segments that are made of them.
+//!
+//! A URN is `aff4://`, a UUID, and nothing or a `/` with any text. Its folder is named by its text, with
+//! each byte that a file name may lack escaped as `%` and two digits.
+#![tactic(auto)]
+
+mod error;
+mod laws;
+mod segment;
+mod urn;
+
+pub use error::NameError;
+pub use laws::{folders_are_files, folders_differ, segments_differ};
+pub use segment::{folder_name, segment_name};
+pub use urn::Urn;
+
+#[cfg(test)]
+mod tests;

@@ -1,0 +1,89 @@
+//! A URN.
+ghost use Rattle.std.specs.Prelude.{◌≡◌, ◌≤◌, ◌↔◌, ℕ, Option, true, MatchOption, IfOk, OnOk, IsOkUnless, IsTrue, slice_get};
+ghost use Rattle.aff_names.specs.Refused.{IsFault};
+ghost use Rattle.aff_names.specs.Urn.{HasScheme, IsFirstBad, IsUrn, may_be_at as spec_may_be_at};
+
+use crate::NameError;
+use std::alloc::Global;
+use std::marker::Model;
+
+/// The text of a URN.
+#[derive(Drop)]
+pub struct Urn {
+    text: String,
+}
+
+impl Model for Urn {
+    ghost use Rattle.std.specs.Prelude.{ℕ, List};
+    ghost use Rattle.std.specs.String.{string_bytes};
+    ghost use Rattle.aff_names.specs.Urn.{IsUrn};
+
+    ghost Value = { List ℕ };
+
+    ghost view = { λ urn. string_bytes urn.text };
+
+    ghost invariant = { λ urn. IsUrn (string_bytes urn.text) };
+}
+
+impl Urn {
+    /// Reads a URN, which is the whole text. Each other text is refused: `NoScheme` goes before `BadUuid`.
+    pub fn read(alloc: Global, text: &str) -> Result<Urn, NameError>
+        ensures text { IfOk result (λ urn. urn ≡ text.now) }
+        ensures urn { OnOk result (IsUrn text.now) }
+        ensures taken { IsUrn text.now → IsOkUnless result NameError.Memory }
+        ensures memory { result ≡ Err NameError.Memory → IsUrn text.now }
+
+        ensures no_scheme { (result ≡ Err NameError.NoScheme) ↔ ¬ HasScheme text.now }
+        ensures bad_uuid { (at : ℕ) → (result ≡ Err (NameError.BadUuid at)) ↔ (HasScheme text.now × IsFirstBad text.now at) }
+    {
+        if let Some(fault) = fault(text.as_bytes()) {
+            return Err(fault);
+        }
+        let text = String::from_str(alloc, text)?;
+        Ok(Urn { text })
+    }
+
+    /// The text as it was read.
+    pub fn text(&self) -> &str
+        ensures text { result.now ≡ self.now }
+        ensures urn { IsUrn self.now }
+    {
+        self.text.as_str()
+    }
+}
+
+// What keeps bytes from being a URN.
+fn fault(bytes: &[u8]) -> Option<NameError>
+    ensures { MatchOption result (IsUrn bytes.now) (IsFault bytes.now) }
+{
+    if !bytes.starts_with(b"aff4://") {
+        return Some(NameError::NoScheme);
+    }
+    let at = first_bad(bytes)?;
+    Some(NameError::BadUuid(at))
+}
+
+// The first place behind the scheme at which bytes are not as a URN is.
+fn first_bad(bytes: &[u8]) -> Option<u64>
+    ensures { MatchOption result ((k : ℕ) → 7 ≤ k → k ≤ 43 → spec_may_be_at k (slice_get bytes.now k) ≡ true) (IsFirstBad bytes.now) }
+{
+    for at in 7..44 {
+        if !may_be_at(at, bytes.get(at).copied()) {
+            return Some(at as u64);
+        }
+    }
+    None
+}
+
+// Whether a URN may have a byte at a place behind the scheme, or may end there. The UUID stands from 7 to 42.
+fn may_be_at(at: usize, byte: Option<u8>) -> bool
+    requires { 7 ≤ at }
+    ensures { result ≡ spec_may_be_at at byte }
+{
+    match (at, byte) {
+        (43, None | Some(b'/')) => true,
+        (43, _) | (_, None) => false,
+        (15 | 20 | 25 | 30, Some(byte)) => byte == b'-',
+        (_, Some(byte)) => byte.is_ascii_hexdigit(),
+    }
+}
