@@ -1,5 +1,5 @@
 -- Eight digits tell a number below 100,000,000.
-use Rattle.std.proofs.Common.{◌≡◌, ℕ, ◌+◌, ◌/◌, ◌%◌, ◌<◌, List, ◌∷◌, ◌++◌, refl, arith}
+use Rattle.std.proofs.Common.{◌≡◌, ℕ, ◌+◌, ◌/◌, ◌%◌, ◌<◌, List, ◌++◌, arith}
 use Rattle.aff_spec.specs.Names.{eight_digits}
 
 -- a number is told by its last digit and those before it

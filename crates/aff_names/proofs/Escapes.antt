@@ -1,12 +1,11 @@
 -- No two texts are escaped alike, and none has a `/` then.
-use Rattle.std.proofs.Common.{◌≡◌, ℕ, ◌+◌, ◌/◌, ◌%◌, Bool, true, false, List, [], ◌∷◌, ◌++◌, ◌⊎◌, refl, sym, ap, subst, ◌∙◌, cond, arith, codes, inl, inr}
+use Rattle.std.proofs.Common.{◌≡◌, ℕ, ◌+◌, ◌/◌, ◌%◌, Bool, true, false, List, [], ◌∷◌, ◌++◌, refl, sym, ap, ◌∙◌, cond, arith, codes, inl, inr}
 use Rattle.std.specs.Prelude.{◌≢◌, Contains}
 use Rattle.std.proofs.lemmas.Bool.Decides.{nat_tests}
 use Rattle.std.proofs.lemmas.List.Elements.{Contains-append_cases, Contains-push_cases}
 use Rattle.aff_spec.specs.Names.{escaped, is_plain, hex_digit, folder_name}
 use Rattle.aff_spec.proofs.Names.{apart_by}
 use Rattle.aff_names.specs.Laws.{FoldersDiffer, FoldersHaveNoSlash, FoldersAreNoDots}
-use Rattle.aff_names.specs.Urn.{IsUrn}
 
 not_plain : (b c : ℕ) → is_plain c ≡ false → is_plain b ≡ true → b ≢ c
 not_plain b c other plain e = let same : is_plain b ≡ is_plain c = ap is_plain e in cc

@@ -1,5 +1,5 @@
 -- A text has one fault, and a URN has none.
-use Rattle.std.proofs.Common.{◌≡◌, ℕ, ◌<◌, Bool, true, false, List, ◌++◌, ◌⊎◌, refl, ap, subst, ◌∙◌, arith, codes, drop, inl, inr, nat_eq}
+use Rattle.std.proofs.Common.{◌≡◌, ℕ, ◌<◌, Bool, true, List, ◌++◌, refl, ap, subst, ◌∙◌, codes, drop, inl, inr, nat_eq}
 use Rattle.std.specs.Prelude.{◌≢◌, ◌↔◌, Result, Ok, Err, slice_get}
 use Rattle.std.specs.List.{starts_with}
 use Rattle.std.specs.Result.{IsErrAnd}

@@ -1,5 +1,5 @@
 -- Segments have names of their own.
-use Rattle.std.proofs.Common.{◌≡◌, ℕ, List, [], ◌∷◌, ◌++◌, refl, sym}
+use Rattle.std.proofs.Common.{◌≡◌, ℕ, List, [], ◌∷◌, ◌++◌, refl}
 use Rattle.aff_spec.specs.Names.{folder_name, eight_digits}
 use Rattle.aff_names.specs.Laws.{SegmentsDiffer}
 use Rattle.aff_names.proofs.Digits.{digits_differ}

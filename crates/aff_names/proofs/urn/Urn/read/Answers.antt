@@ -1,4 +1,4 @@
-use Rattle.std.proofs.Common.{◌≡◌, refl, subst}
+use Rattle.std.proofs.Common.{refl, subst}
 use Rattle.std.specs.Prelude.{Ok, Err}
 use Rattle.aff_names.specs.Refused.{IsFault}
 use Rattle.aff_names.specs.Urn.{IsUrn}
