@@ -6,5 +6,6 @@ pub mod Held
 pub mod History
 pub mod Index
 pub mod Legal
+pub mod Pieces
 pub mod Plan
 pub mod Shown
