@@ -1,7 +1,7 @@
 //! The line that states a digest.
 ghost use Rattle.std.specs.Prelude.{◌≡◌, IfOk};
 ghost use Rattle.std.specs.String.{string_bytes};
-ghost use Rattle.aff_hash.specs.Line.{digest_line};
+ghost use Rattle.aff_spec.specs.Digests.{digest_line};
 
 use aff_model::Memory;
 use std::alloc::{AllocError, Global};

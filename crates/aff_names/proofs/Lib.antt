@@ -1,6 +1,4 @@
-pub mod Digits
-pub mod Escapes
+pub mod Dots
 pub mod Faults
 pub mod Percent
 pub mod Places
-pub mod Segments

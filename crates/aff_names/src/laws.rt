@@ -1,5 +1,6 @@
 //! What names never share. These functions do nothing: each has a law as its contract.
-ghost use Rattle.aff_names.specs.Laws.{FoldersDiffer, FoldersHaveNoSlash, FoldersAreNoDots, SegmentsDiffer};
+ghost use Rattle.aff_names.specs.Laws.{FoldersAreNoDots};
+ghost use Rattle.aff_spec.specs.NameLaws.{FoldersDiffer, FoldersHaveNoSlash, SegmentsDiffer};
 
 /// Different URNs have different folders.
 pub fn folders_differ()

@@ -4,9 +4,8 @@ use Rattle.std.specs.Prelude.{◌≢◌}
 use Rattle.std.specs.List.{flat_map}
 use Rattle.std.specs.Str.{bytes_eq}
 use Rattle.std.proofs.lemmas.Bool.{and_parts}
-use Rattle.std.proofs.lemmas.List.{append_cancel_left}
 use Rattle.aff_model.proofs.HeldLaws.{bytes_eq_same}
-use Rattle.aff_spec.specs.Names.{escaped, is_plain, hex_digit, stream_urn, image_urn, bevvy_name, index_name, map_name, idx_name}
+use Rattle.aff_spec.specs.Names.{escaped, is_plain, hex_digit, image_urn, map_name, idx_name}
 use Rattle.aff_spec.specs.Words.{is_uuid, uuid_from, fits_uuid, is_dash_place, is_hex}
 
 dash_is_plain : (b : ℕ) → (b == 45) ≡ true → is_plain b ≡ true
@@ -40,12 +39,6 @@ abbrev pub name_with : List ℕ → List ℕ → List ℕ
 name_with uuid tail = codes "aff4%3A%2F%2F" ++ (uuid ++ tail)
 
 module _ (uuid : List ℕ) (ok : is_uuid uuid ≡ true) where
-  pub bevvy_name_is : bevvy_name (stream_urn uuid) 0 ≡ name_with uuid (codes "%2Fdata/00000000")
-  bevvy_name_is = ap (λ v. (front ++ v) ++ codes "/00000000") (escaped_uuid 0 uuid (codes "/data") ok) ∙ ap (λ v. front ++ v) (append_assoc uuid (codes "%2Fdata") (codes "/00000000"))
-
-  pub index_name_is : index_name (stream_urn uuid) 0 ≡ name_with uuid (codes "%2Fdata/00000000.index")
-  index_name_is = ap (λ v. (front ++ v) ++ codes "/00000000.index") (escaped_uuid 0 uuid (codes "/data") ok) ∙ ap (λ v. front ++ v) (append_assoc uuid (codes "%2Fdata") (codes "/00000000.index"))
-
   pub map_name_is : map_name (image_urn uuid) ≡ name_with uuid (codes "%2Fimage/map")
   map_name_is = ap (λ v. (front ++ v) ++ codes "/map") (escaped_uuid 0 uuid (codes "/image") ok) ∙ ap (λ v. front ++ v) (append_assoc uuid (codes "%2Fimage") (codes "/map"))
 
@@ -57,29 +50,3 @@ pub apart_by : (xs ys : List ℕ) → bytes_eq xs ys ≡ false → xs ≢ ys
 apart_by xs ys test e =
     let same : bytes_eq xs ys ≡ true = ap (λ v. bytes_eq xs v) (sym e) ∙ bytes_eq_same xs in
     cc (test, same)
-
--- names with different ends differ
-names_apart : (uuid xs ys : List ℕ) → bytes_eq xs ys ≡ false → name_with uuid xs ≢ name_with uuid ys
-names_apart uuid xs ys test e = apart_by xs ys test (append_cancel_left uuid xs ys (append_cancel_left front (uuid ++ xs) (uuid ++ ys) e))
-
--- the four segments of a volume have four names
-pub record FourNames (bevvy index map idx : List ℕ) : Type 0 where
-  pub bevvy_index : bevvy ≢ index
-  pub bevvy_map : bevvy ≢ map
-  pub bevvy_idx : bevvy ≢ idx
-  pub index_map : index ≢ map
-  pub index_idx : index ≢ idx
-  pub map_idx : map ≢ idx
-
-along : (a b x y : List ℕ) → a ≡ x → b ≡ y → x ≢ y → a ≢ b
-along a b x y p q apart e = apart (sym p ∙ e ∙ q)
-
-pub four_names : (uuid : List ℕ) → is_uuid uuid ≡ true → FourNames (bevvy_name (stream_urn uuid) 0) (index_name (stream_urn uuid) 0) (map_name (image_urn uuid)) (idx_name (image_urn uuid))
-four_names uuid ok = record {
-  bevvy_index = along _ _ _ _ (bevvy_name_is uuid ok) (index_name_is uuid ok) (names_apart uuid _ _ refl);
-  bevvy_map = along _ _ _ _ (bevvy_name_is uuid ok) (map_name_is uuid ok) (names_apart uuid _ _ refl);
-  bevvy_idx = along _ _ _ _ (bevvy_name_is uuid ok) (idx_name_is uuid ok) (names_apart uuid _ _ refl);
-  index_map = along _ _ _ _ (index_name_is uuid ok) (map_name_is uuid ok) (names_apart uuid _ _ refl);
-  index_idx = along _ _ _ _ (index_name_is uuid ok) (idx_name_is uuid ok) (names_apart uuid _ _ refl);
-  map_idx = along _ _ _ _ (map_name_is uuid ok) (idx_name_is uuid ok) (names_apart uuid _ _ refl);
-}

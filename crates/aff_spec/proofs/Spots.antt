@@ -1,124 +1,87 @@
--- Where the bytes of an image are after a history whose chunks are all stored.
-use Rattle.std.proofs.Common.{◌≡◌, ℕ, suc, ◌+◌, ◌-◌, ◌*◌, ◌/◌, ◌%◌, ◌<◌, ◌≤◌, true, false, ◌||◌, nat_le, nat_lt, cond, List, [], ◌∷◌, ◌++◌, length, get_or, map, refl, sym, ap, subst, ◌∙◌, arith, append_assoc, length-append, inl, inr}
-use Rattle.std.specs.Prelude.{◌⊎◌, Option, Some, None, slice_get, if◌then◌else◌}
-use Rattle.std.specs.List.{range_with_len, list_any}
-use Rattle.std.proofs.lemmas.Bool.{and_parts}
-use Rattle.std.proofs.Math.ListN.{get_or-append}
-use Rattle.std.proofs.Math.Seq.{get_or-append_seam}
-use Rattle.std.proofs.lemmas.List.{get_or-append-add}
-use Rattle.std.proofs.lemmas.Option.{slice_get-get_or}
-use Rattle.std.proofs.lemmas.List.FromFn.{length-map-range_with_len, get_or-map-range_with_len}
+-- Where the bytes of an image are after the extents were taken, and what they read as there.
+use Rattle.std.proofs.Common.{◌≡◌, ℕ, suc, ◌+◌, ◌/◌, true, false, ◌||◌, cond, List, [], ◌∷◌, ◌++◌, length, get_or, refl, sym, ap, subst, ◌∙◌, arith, append_assoc, length-append, inl, inr}
+use Rattle.std.specs.Prelude.{Option, Some, None, All, AllPairs}
+use Rattle.std.specs.List.{list_any}
+use Rattle.std.proofs.lemmas.Bool.{or_parts}
+use Rattle.std.proofs.Math.Bool.{or-false}
+use Rattle.std.proofs.lemmas.List.Folds.{list_any_none}
+use Rattle.aff_model.specs.declared.cell.Cell.TheVariants.{Byte, Unreadable, Unknown}
 use Rattle.aff_model.specs.declared.extent.Extent.{Extent}
-use Rattle.aff_model.specs.declared.publication.Place.TheVariants.{Chunk, Nothing}
+use Rattle.aff_model.specs.Cells.{is_bad_at, content_of}
 use Rattle.aff_model.specs.Content.{Content}
-use Rattle.aff_model.specs.Plan.{has_place, chunk_count}
-use Rattle.aff_spec.specs.Runs.{Spot, history_spot, spot_by, published_spot, place_spot}
-use Rattle.aff_spec.specs.Chunks.{chunks_in, extent_bytes, stream_chunks}
-use Rattle.aff_spec.specs.Acquired.{stored_publication, stored_from}
-use Rattle.aff_spec.proofs.Chunks.{chunk_byte, length-chunks_in, get_or-chunks_in, length-extent_bytes, get_or-extent_bytes}
+use Rattle.aff_model.specs.History.{Published}
+use Rattle.aff_model.specs.Legal.{numbers_of}
+use Rattle.aff_model.specs.Plan.{has_place, IsExtent, IsPlan, AreApart}
+use Rattle.aff_model.proofs.Find.{has_place-outside}
+use Rattle.aff_spec.specs.Acquired.{acquired_content}
+use Rattle.aff_spec.specs.Reads.{Taken, AreTaken, publication_at, history_from, pieces_of, all_pieces}
+use Rattle.aff_spec.specs.Runs.{Spot, history_spot, published_spot}
+use Rattle.aff_spec.proofs.Cells.{CellReads, has_place_from, has_place_to, published_reads}
+use Rattle.aff_spec.proofs.Chunks.{length-pieces_of}
+use Rattle.aff_spec.proofs.Sectors.{is_marked, not_marked, marked_alike}
+use Rattle.aff_spec.proofs.Streams.{ReadsAs}
+use Rattle.aff_spec.proofs.Walks.{beside, spot_answer, mark_answer, history_spot_beside, is_unreadable_beside}
 
--- the place in the stream of a byte of an extent whose chunks are stored from chunk c on
-abbrev pub stream_place : ℕ → Extent → ℕ → ℕ
-stream_place c x i = 32768 * (c + (i - x.at) / 32768) + (i - x.at) % 32768
+-- the spot of place i is that of the cell which the history acquired there
+abbrev pub SpotReads : (ℕ → Option ℕ) → Content → List Extent → List Published → ℕ → Option Spot → Type 0
+SpotReads stream c extents history i spot = CellReads stream i spot (acquired_content c extents history i)
 
--- the spots of extents whose chunks are stored one after another, from chunk c on
-abbrev pub stored_spot : ℕ → List Extent → ℕ → Option Spot
-stored_spot c [] i = None
-stored_spot c (x ∷ extents) i = if has_place i x then Some (0, stream_place c x i) else stored_spot (c + chunk_count x.len) extents i
+-- of a place in an extent, no extent apart from it has the place
+others_lack : (i : ℕ) (x : Extent) (extents : List Extent) → has_place i x ≡ true → All (AreApart x) extents → list_any (has_place i) extents ≡ false
+others_lack i x extents has apart = list_any_none (has_place i) extents (λ k d below. lacks (get_or extents k d) (apart k d below))
+  where
+    lacks : (y : Extent) → AreApart x y → has_place i y ≡ false
+    lacks y (inl behind) = has_place-outside y i (inl (omega (arith, has_place_to i x has, behind)))
+    lacks y (inr ahead) = has_place-outside y i (inr (omega (arith, has_place_from i x has, ahead)))
 
--- an extent that has a place
-pub has_place_from : (i : ℕ) (x : Extent) → has_place i x ≡ true → x.at ≤ i
-has_place_from i x h = let parts = and_parts (nat_le x.at i) (nat_lt i (x.at + x.len)) h in grind (arith, parts.0)
+-- the sector of a place outside all extents is marked by none
+none_marks : (case : Option Content) (size i first : ℕ) (extents : List Extent) (taken : List Taken) → All (IsExtent size) extents → AreTaken case first extents taken
+    → list_any (has_place i) extents ≡ false → beside (mark_answer (i / 512)) false extents taken ≡ false
+none_marks case size i first [] taken each are none = refl
+none_marks case size i first (x ∷ extents) [] each are none = refl
+none_marks case size i first (x ∷ extents) (t ∷ taken) each are none =
+    let parts = or_parts (has_place i x) (list_any (has_place i) extents) none in
+    let rest : beside (mark_answer (i / 512)) false extents taken ≡ false =
+    none_marks case size i (first + length (numbers_of t.places)) extents taken (λ k d below. each (suc k) d (omega (arith, below))) are.1 parts.1 in
+    ap (λ b. b || beside (mark_answer (i / 512)) false extents taken) (not_marked size i x t.bad (each 0 x (omega arith)) are.0.fits.inside parts.0) ∙ rest
 
-pub has_place_to : (i : ℕ) (x : Extent) → has_place i x ≡ true → i < x.at + x.len
-has_place_to i x h = let parts = and_parts (nat_le x.at i) (nat_lt i (x.at + x.len)) h in grind (arith, parts.1)
+-- the spots of extents that were taken read as what was acquired of them
+module _ (stream : ℕ → Option ℕ) (c : Content) (size i : ℕ) where
+  beside_reads : (before : List (List ℕ)) (extents : List Extent) (taken : List Taken) → All (IsExtent size) extents → AllPairs AreApart extents
+      → AreTaken (Some c) (length before) extents taken → ReadsAs stream (before ++ all_pieces taken)
+      → CellReads stream i (beside (spot_answer i) None extents taken) (content_of c extents (λ s. beside (mark_answer s) false extents taken) i)
+  beside_reads before [] taken each apart are reads = refl
+  beside_reads before (x ∷ extents) [] each apart are reads = absurd are
+  beside_reads before (x ∷ extents) (t ∷ taken) each apart are reads =
+      let spots = beside (spot_answer i) None extents taken in
+      let marks = beside (mark_answer (i / 512)) false extents taken in
+      let own = is_marked x t.bad (i / 512) in
+      let first : IsExtent size x = each 0 x (omega arith) in
+      let later : All (IsExtent size) extents = λ k d below. each (suc k) d (omega (arith, below)) in
+      let count : length before + length (numbers_of t.places) ≡ length (before ++ pieces_of t) = omega (arith, length-append before (pieces_of t), length-pieces_of t) in
+      elim (has_place i x) as (λ b. has_place i x ≡ b
+      → CellReads stream i (cond b (published_spot x (publication_at 0 t) i) spots)
+      (cond (b || list_any (has_place i) extents) (cond (own || marks) Unreadable (Byte (c.byte i))) Unknown)) [
+        | true ↦ λ has.
+            let lacking = others_lack i x extents has (λ k d below. apart 0 (suc k) d (omega arith) (omega (arith, below))) in
+            let alike : (own || marks) ≡ is_bad_at x (publication_at 0 t) i =
+            ap (λ b. own || b) (none_marks (Some c) size i (length before + length (numbers_of t.places)) extents taken later are.1 lacking)
+            ∙ or-false own ∙ marked_alike x t.bad i (has_place_from i x has) in
+            subst (λ b. CellReads stream i (published_spot x (publication_at 0 t) i) (cond b Unreadable (Byte (c.byte i)))) (sym alike)
+            (published_reads stream c size i x t before (all_pieces taken) first are.0 has reads)
+        | false ↦ λ lacks.
+            let alike : (own || marks) ≡ marks = ap (λ b. b || marks) (not_marked size i x t.bad first are.0.fits.inside lacks) in
+            subst (λ b. CellReads stream i spots (cond (list_any (has_place i) extents) (cond b Unreadable (Byte (c.byte i))) Unknown)) (sym alike)
+            (beside_reads (before ++ pieces_of t) extents taken later (λ j k d below last. apart (suc j) (suc k) d (omega (arith, below)) (omega (arith, last)))
+            (subst (λ n. AreTaken (Some c) n extents taken) count are.1)
+            (subst (ReadsAs stream) (sym (append_assoc before (pieces_of t) (all_pieces taken))) reads))
+      ] refl
 
--- the place of chunk q
-stored_place : (c n q : ℕ) → q < n → slice_get (map Chunk (range_with_len c n)) q ≡ Some (Chunk (c + q))
-stored_place c n q below =
-    slice_get-get_or (map Chunk (range_with_len c n)) q Nothing (omega (arith, length-map-range_with_len Chunk c n))
-    ∙ ap Some (get_or-map-range_with_len Chunk c n q (c + q) Nothing below refl)
-
-published : (e c i : ℕ) (x : Extent) → has_place i x ≡ true → published_spot x (stored_publication e c x) i ≡ Some (0, stream_place c x i)
-published e c i x h =
-    let below : (i - x.at) / 32768 < chunk_count x.len = omega (arith, has_place_from i x h, has_place_to i x h) in
-    ap (λ o. place_spot o x i) (stored_place c (chunk_count x.len) ((i - x.at) / 32768) below)
-
-pub nth_after : (done : List Extent) (x : Extent) (rest : List Extent) → slice_get (done ++ x ∷ rest) (length done) ≡ Some x
-nth_after done x rest =
-    slice_get-get_or (done ++ x ∷ rest) (length done) x (omega (arith, length-append done (x ∷ rest))) ∙ ap Some (get_or-append_seam done x rest x)
-
--- the spots of the history are these
-spots_from : (done rest : List Extent) (c i : ℕ) → history_spot (done ++ rest) (stored_from (length done) c rest) i ≡ stored_spot c rest i
-spots_from done [] c i = refl
-spots_from done (x ∷ rest) c i =
-    let p = stored_publication (length done) c x in
-    let next : history_spot (done ++ x ∷ rest) (stored_from (suc (length done)) (c + chunk_count x.len) rest) i ≡ stored_spot (c + chunk_count x.len) rest i =
-    let one : suc (length done) ≡ length (done ++ x ∷ []) = omega (arith, length-append done (x ∷ [])) in
-    ap (λ n. history_spot (done ++ x ∷ rest) (stored_from n (c + chunk_count x.len) rest) i) one
-    ∙ ap (λ v. history_spot v (stored_from (length (done ++ x ∷ [])) (c + chunk_count x.len) rest) i) (sym (append_assoc done (x ∷ []) rest))
-    ∙ spots_from (done ++ x ∷ []) rest (c + chunk_count x.len) i in
-    ap (λ o. spot_by o p i (history_spot (done ++ x ∷ rest) (stored_from (suc (length done)) (c + chunk_count x.len) rest) i)) (nth_after done x rest)
-    ∙ elim (has_place i x) as (λ t. has_place i x ≡ t → cond t (published_spot x p i) (history_spot (done ++ x ∷ rest) (stored_from (suc (length done)) (c + chunk_count x.len) rest) i)
-    ≡ cond t (Some (0, stream_place c x i)) (stored_spot (c + chunk_count x.len) rest i)) [
-      | true ↦ λ h. published (length done) c i x h
-      | false ↦ λ h. next
-    ] refl
-
-pub stored_spots : (extents : List Extent) (i : ℕ) → history_spot extents (stored_from 0 0 extents) i ≡ stored_spot 0 extents i
-stored_spots extents i = spots_from [] extents 0 i
-
--- what the byte at a spot is: outside the plan there is none, inside it the stream has the content's byte
-unfoldable pub SpotReads : (ℕ → Option ℕ) → Content → List Extent → ℕ → Option Spot → Type 0
-SpotReads stream content extents i spot =
-    ((spot ≡ None) × (list_any (has_place i) extents ≡ false))
-    ⊎ ((place : ℕ) × (spot ≡ Some (0, place)) × (list_any (has_place i) extents ≡ true) × (stream place ≡ Some (content.byte i)))
-
--- the stream reads as these pieces
-unfoldable pub ReadsAs : (ℕ → Option ℕ) → List (List ℕ) → Type 0
-ReadsAs stream pieces = (k r : ℕ) → k < length pieces → r < 32768 → stream (32768 * k + r) ≡ slice_get (get_or pieces k []) r
-
--- the byte of an extent in the stream
-byte_in : (stream : ℕ → Option ℕ) (before after : List (List ℕ)) (content : Content) (x : Extent) (c i : ℕ) → length before ≡ c → has_place i x ≡ true
-    → ReadsAs stream (before ++ (chunks_in (extent_bytes content x) ++ after)) → stream (stream_place c x i) ≡ Some (content.byte i)
-unfolding ReadsAs
-byte_in stream before after content x c i at h reads =
-    let low = has_place_from i x h in
-    let high = has_place_to i x h in
-    let bytes = extent_bytes content x in
-    let q : ℕ = (i - x.at) / 32768 in
-    let r : ℕ = (i - x.at) % 32768 in
-    let len : length bytes ≡ x.len = length-extent_bytes content x in
-    let count : length (chunks_in bytes) ≡ chunk_count (length bytes) = length-chunks_in bytes in
-    let below : (i - x.at) / 32768 < chunk_count (length bytes) = omega (arith, low, high, len) in
-    let rest : (i - x.at) % 32768 < 32768 = omega arith in
-    let whole : 32768 * ((i - x.at) / 32768) + (i - x.at) % 32768 ≡ i - x.at = omega arith in
-    let inside : c + (i - x.at) / 32768 < length (before ++ (chunks_in bytes ++ after)) = omega (arith, at, below, count, length-append before (chunks_in bytes ++ after), length-append (chunks_in bytes) after) in
-    reads (c + (i - x.at) / 32768) ((i - x.at) % 32768) inside rest
-    ∙ ap (λ v. slice_get v ((i - x.at) % 32768))
-    (ap (λ n. get_or (before ++ (chunks_in bytes ++ after)) (n + (i - x.at) / 32768) []) (sym at)
-    ∙ get_or-append-add before (chunks_in bytes ++ after) ((i - x.at) / 32768) []
-    ∙ get_or-append (chunks_in bytes) after [] ((i - x.at) / 32768) (omega (arith, below, count))
-    ∙ get_or-chunks_in bytes ((i - x.at) / 32768) below)
-    ∙ chunk_byte bytes ((i - x.at) / 32768) ((i - x.at) % 32768) rest (omega (arith, whole, len, low, high))
-    ∙ ap Some (ap (λ n. get_or bytes n 0) whole ∙ get_or-extent_bytes content x (i - x.at) (omega (arith, low, high)) ∙ ap content.byte (omega (arith, low)))
-
--- the spots of stored extents read as the content
-reads_from : (stream : ℕ → Option ℕ) (content : Content) (before : List (List ℕ)) (extents : List Extent) (c i : ℕ) → length before ≡ c
-    → ReadsAs stream (before ++ stream_chunks content extents) → SpotReads stream content extents i (stored_spot c extents i)
-unfolding SpotReads
-reads_from stream content before [] c i at reads = inl (refl, refl)
-reads_from stream content before (x ∷ extents) c i at reads =
-    let own = chunks_in (extent_bytes content x) in
-    let len : length own ≡ chunk_count x.len = length-chunks_in (extent_bytes content x) ∙ ap chunk_count (length-extent_bytes content x) in
-    let others : ReadsAs stream ((before ++ own) ++ stream_chunks content extents) = subst (ReadsAs stream) (sym (append_assoc before own (stream_chunks content extents))) reads in
-    elim (has_place i x) as (λ t. has_place i x ≡ t
-    → ((cond t (Some (0, stream_place c x i)) (stored_spot (c + chunk_count x.len) extents i) ≡ None) × ((t || list_any (has_place i) extents) ≡ false))
-    ⊎ ((place : ℕ) × (cond t (Some (0, stream_place c x i)) (stored_spot (c + chunk_count x.len) extents i) ≡ Some (0, place)) × ((t || list_any (has_place i) extents) ≡ true) × (stream place ≡ Some (content.byte i)))) [
-      | true ↦ λ h. inr (stream_place c x i, refl, refl, byte_in stream before (stream_chunks content extents) content x c i at h reads)
-      | false ↦ λ h. reads_from stream content (before ++ own) extents (c + chunk_count x.len) i (length-append before own ∙ (λ j. at j + len j)) others
-    ] refl
-
-pub stored_reads : (stream : ℕ → Option ℕ) (content : Content) (extents : List Extent) (i : ℕ) → ReadsAs stream (stream_chunks content extents)
-    → SpotReads stream content extents i (stored_spot 0 extents i)
-stored_reads stream content extents i reads = reads_from stream content [] extents 0 i refl reads
+-- the spots of a plan's extents read as what was acquired
+pub taken_reads : (stream : ℕ → Option ℕ) (c : Content) (size : ℕ) (extents : List Extent) (taken : List Taken) (i : ℕ) → IsPlan size extents → AreTaken (Some c) 0 extents taken
+    → ReadsAs stream (all_pieces taken) → SpotReads stream c extents (history_from 0 taken) i (history_spot extents (history_from 0 taken) i)
+taken_reads stream c size extents taken i plan are reads =
+    subst (λ spot. SpotReads stream c extents (history_from 0 taken) i spot) (sym (history_spot_beside (Some c) extents taken are i))
+    (subst (λ b. CellReads stream i (beside (spot_answer i) None extents taken) (cond (list_any (has_place i) extents) (cond b Unreadable (Byte (c.byte i))) Unknown))
+    (sym (is_unreadable_beside (Some c) extents taken are (i / 512)))
+    (beside_reads stream c size i [] extents taken plan.each plan.apart are reads))

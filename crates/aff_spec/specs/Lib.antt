@@ -1,6 +1,10 @@
 pub mod Acquired
 pub mod Appends
+pub mod Bevvies
+pub mod BlockHashes
 pub mod Chunks
+pub mod Digests
+pub mod NameLaws
 pub mod Names
 pub mod Outcomes
 pub mod PlanText
@@ -9,5 +13,7 @@ pub mod Report
 pub mod Runs
 pub mod Streams
 pub mod Symbols
+pub mod Unreadable
 pub mod Volumes
+pub mod Walks
 pub mod Words

@@ -3,7 +3,7 @@ use Rattle.std.specs.Prelude.{◌≡◌, ℕ, ◌<◌, ◌≤◌, ◌^◌, List,
 use Rattle.std.specs.Fmt.{decimal}
 use Rattle.std.specs.List.{flat_map}
 use Rattle.aff_model.specs.declared.extent.Extent.{Extent}
-use Rattle.aff_model.specs.Plan.{IsPlan, chunks_of}
+use Rattle.aff_model.specs.Plan.{IsPlan}
 
 -- the numbers are those of the type
 pub record FitsExtent (e : Extent) : Type 0 where
@@ -18,13 +18,12 @@ extent_line e = codes "extent " ++ (decimal e.at ++ (codes " " ++ (decimal e.len
 abbrev pub plan_text : List Extent → List ℕ
 plan_text extents = flat_map extent_line extents
 
--- a text that may be acquired by: that of a valid plan of at most 1,024 chunks, and itself at most 16,777,216 bytes long
+-- a text that may be acquired by: that of a valid plan, and itself at most 16,777,216 bytes long
 pub record IsPlanText (size : ℕ) (extents : List Extent) (text : List ℕ) : Type 0 where
   pub is_plan : IsPlan size extents
-  pub few_chunks : chunks_of extents ≤ 1024
   pub is_text : text ≡ plan_text extents
   pub short : length text ≤ 16777216
 
--- a text that no valid plan of so many chunks has
+-- a text that no valid plan has
 abbrev pub IsRefusedText : ℕ → List ℕ → Type 0
 IsRefusedText size text = (extents : List Extent) → ¬ (IsPlanText size extents text)

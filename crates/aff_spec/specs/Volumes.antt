@@ -1,8 +1,8 @@
 -- Volumes: what the image of a folder reads as.
-use Rattle.std.specs.Prelude.{ℕ, ◌==◌, List, ◌++◌, Option, None, Some, slice_get, codes, if◌then◌else◌}
+use Rattle.std.specs.Prelude.{ℕ, ◌==◌, List, ◌++◌, Option, None, Some, slice_get, codes, unwrap_or, map, if◌then◌else◌}
 use Rattle.std.specs.Option.{option_map, option_and_then}
 use Rattle.std.specs.Str.{bytes_eq}
-use Rattle.std.specs.List.{slice_split}
+use Rattle.std.specs.List.{slice_split, range_with_len}
 use Rattle.aff_model.specs.declared.cell.Cell.{Cell}
 use Rattle.aff_model.specs.declared.cell.Cell.TheVariants.{Byte, Unreadable, Unknown}
 use Rattle.aff_model.specs.Held.{Held, bytes_of}
@@ -62,3 +62,7 @@ volume_cell held v i = spot_cell held v i (lookup (entries_of (bytes_of held (ma
 
 abbrev pub volume_byte : Held → Volume → ℕ → Option ℕ
 volume_byte held v i = spot_byte held v i (lookup (entries_of (bytes_of held (map_name v.image))) i)
+
+-- all bytes of an image of a size, one after another (0 stands for a byte that the volume does not tell)
+abbrev pub volume_bytes : Held → Volume → ℕ → List ℕ
+volume_bytes held v size = map (λ i. unwrap_or (volume_byte held v i) 0) (range_with_len 0 size)

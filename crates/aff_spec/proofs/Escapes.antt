@@ -1,11 +1,10 @@
 -- No two texts are escaped alike, and none has a `/` then.
-use Rattle.std.proofs.Common.{◌≡◌, ℕ, ◌+◌, ◌/◌, ◌%◌, Bool, true, false, List, [], ◌∷◌, ◌++◌, refl, sym, ap, ◌∙◌, cond, arith, codes, inl, inr}
+use Rattle.std.proofs.Common.{◌≡◌, ℕ, ◌/◌, ◌%◌, Bool, true, false, List, [], ◌∷◌, ◌++◌, refl, sym, ap, cond, arith, inl, inr}
 use Rattle.std.specs.Prelude.{◌≢◌, Contains}
 use Rattle.std.proofs.lemmas.Bool.Decides.{nat_tests}
 use Rattle.std.proofs.lemmas.List.Elements.{Contains-append_cases, Contains-push_cases}
 use Rattle.aff_spec.specs.Names.{escaped, is_plain, hex_digit, folder_name}
-use Rattle.aff_spec.proofs.Names.{apart_by}
-use Rattle.aff_names.specs.Laws.{FoldersDiffer, FoldersHaveNoSlash, FoldersAreNoDots}
+use Rattle.aff_spec.specs.NameLaws.{FoldersDiffer, FoldersHaveNoSlash}
 
 not_plain : (b c : ℕ) → is_plain c ≡ false → is_plain b ≡ true → b ≢ c
 not_plain b c other plain e = let same : is_plain b ≡ is_plain c = ap is_plain e in cc
@@ -75,11 +74,3 @@ none_contained (b ∷ bytes) none has =
 
 pub folders_have_no_slash : FoldersHaveNoSlash
 folders_have_no_slash urn = none_contained (folder_name urn) (folder_has_no_slash urn)
-
--- the folder of a text with the scheme begins with `a`
-pub folders_are_no_dots : FoldersAreNoDots
-folders_are_no_dots urn is_urn =
-    let named : folder_name urn ≡ codes "aff4%3A%2F%2F" ++ folder_name (is_urn.uuid ++ is_urn.path) = ap folder_name is_urn.is in (
-      λ e. apart_by _ (codes ".") refl (sym named ∙ e),
-      λ e. apart_by _ (codes "..") refl (sym named ∙ e),
-    )
