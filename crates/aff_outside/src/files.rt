@@ -1,16 +1,18 @@
 //! A device and a folder over the file system. They tell nothing of what they hold.
-ghost use Rattle.std.specs.Prelude.{◌≡◌, false, None, IsErrOf};
+ghost use Rattle.std.specs.Prelude.{◌≡◌, false, None, All, length, refl, IfOk, IsErrOf};
 ghost use Rattle.std.specs.FinMap.{empty};
 ghost use Rattle.aff_model.specs.Causes.{HasCause};
 ghost use Rattle.aff_outside.specs.declared.files.Trouble.TheVariants.{Memory};
 
 use crate::device::{Device, DeviceFailed};
+use crate::file_peek::{FilePeek, FileReceipt};
 use crate::folder::{Folder, FolderError, Segment};
 use aff_model::Memory;
-use std::alloc::{AllocError, AllocFailed};
+use std::alloc::{AllocError, AllocFailed, Global};
 use std::fs::{File, Metadata, OpenOptions};
 use std::io::{ErrorKind, Seek, SeekFrom, Write};
 use std::os::unix::fs::FileExt;
+use std::sync::Arc;
 use std::{fs, io};
 
 /// A file or a block device that is read as a device. One that could not be opened has no byte.
@@ -84,6 +86,7 @@ impl Device for FileDevice {
 pub struct FileFolder {
     rt: HostRuntime,
     path: String,
+    last: Option<Arc<String>>,
     faults: u64,
 }
 
@@ -148,21 +151,27 @@ fn open_end(rt: &HostRuntime, path: &str) -> io::Result<File> {
     OpenOptions::new().append(true).create(true).open(rt, path)
 }
 
-/// Opens a segment at its end. Most often its folders are there.
-fn open_segment(rt: &HostRuntime, folder: &str, name: &str) -> Result<File, Trouble> {
-    let path = joined(rt, folder, name)?;
-    match open_end(rt, path.as_str()) {
+/// Opens a segment, whose path is given too, at its end. Most often its folders are there.
+fn open_segment(rt: &HostRuntime, folder: &str, name: &str, path: &str) -> Result<File, Trouble> {
+    match open_end(rt, path) {
         Err(error) if error.kind() == ErrorKind::NotFound => {
             make_folders(rt, folder, name)?;
-            Ok(open_end(rt, path.as_str())?)
+            Ok(open_end(rt, path)?)
         }
         outcome => Ok(outcome?),
     }
 }
 
-fn append_to(rt: &HostRuntime, folder: &str, name: &str, bytes: &[u8]) -> Result<(), Trouble> {
-    let mut file = open_segment(rt, folder, name)?;
-    Ok(file.write_all(bytes)?)
+/// The path in shared memory: that of the append before, where it is the same.
+fn shared_path(
+    alloc: Global,
+    last: &Option<Arc<String>>,
+    path: String,
+) -> Result<Arc<String>, AllocError> {
+    match last {
+        Some(last) if last.as_str() == path.as_str() => Arc::try_clone(last),
+        _ => Arc::new(alloc, path).map_err(AllocError::from),
+    }
 }
 
 fn read_from(
@@ -243,10 +252,24 @@ impl FileFolder {
             Ok(path) => Ok(FileFolder {
                 rt,
                 path,
+                last: None,
                 faults: 0,
             }),
             Err(_) => Err(Memory),
         }
+    }
+
+    /// Takes all its memory before the first byte is written.
+    fn append_to(&mut self, name: &str, bytes: &[u8]) -> Result<FileReceipt, Trouble>
+        ensures { self.new.faults ≡ self.old.faults }
+    {
+        let path = joined(&self.rt, self.path.as_str(), name)?;
+        let path = shared_path(self.rt.alloc(), &self.last, path)?;
+        self.last = Some(Arc::try_clone(&path)?);
+        let mut file = open_segment(&self.rt, self.path.as_str(), name, path.as_str())?;
+        let at = file.seek(SeekFrom::End(0))?;
+        file.write_all(bytes)?;
+        Ok(FileReceipt::new(path, at, bytes.len()))
     }
 
     /// The answer for an outcome. A failure is counted.
@@ -264,7 +287,23 @@ impl FileFolder {
     }
 }
 
+/// Peeks at the files, none of which has failed.
+fn file_peeks(rt: &HostRuntime, count: usize) -> Result<Vec<FilePeek>, AllocError>
+    ensures count { IfOk result (λ peeks. length peeks.items ≡ count) }
+    ensures fresh { IfOk result (λ peeks. All (λ peek. peek ≡ 0) peeks.items) }
+{
+    let mut peeks = Vec::new(rt.alloc());
+    for _ in 0..count {
+        peeks.push(FilePeek::new(*rt))?;
+    }
+    Ok(peeks)
+}
+
 impl Folder for FileFolder {
+    type Receipt = FileReceipt;
+
+    type Peek = FilePeek;
+
     ghost tells = { false };
 
     ghost held = { λ _. empty };
@@ -278,8 +317,8 @@ impl Folder for FileFolder {
     }
 
     /// Makes the folder where it is missing, and the one folder in it that the name may begin with.
-    fn append(&mut self, name: &str, bytes: &[u8]) -> Result<(), FolderError> {
-        let outcome = append_to(&self.rt, self.path.as_str(), name, bytes);
+    fn append(&mut self, name: &str, bytes: &[u8]) -> Result<FileReceipt, FolderError> {
+        let outcome = self.append_to(name, bytes);
         self.answer(outcome)
     }
 
@@ -287,4 +326,10 @@ impl Folder for FileFolder {
         let outcome = read_from(&self.rt, self.path.as_str(), name, at, out);
         self.answer(outcome)
     }
+
+    fn peeks(&mut self, count: usize) -> Result<Vec<FilePeek>, FolderError> {
+        Ok(file_peeks(&self.rt, count)?)
+    }
+
+    ghost receipts_tell = { refl };
 }

@@ -1,11 +1,12 @@
 //! A folder of segments that grow at their ends.
-ghost use Rattle.std.specs.Prelude.{◌≡◌, ◌⊎◌, ◌≤◌, ℕ, Bool, length, take, drop, IfOk, OnOk, OnErr, IsErrOf, IsTrue};
+ghost use Rattle.std.specs.Prelude.{◌≡◌, ◌⊎◌, ◌≤◌, ℕ, Bool, All, length, take, drop, IfOk, OnOk, OnErr, IsErrOf, IsTrue};
 ghost use Rattle.std.specs.Ordering.{nat_cmp, eq_by_cmp};
 ghost use Rattle.std.specs.Cmp.Lexicographic.{slice_cmp};
 ghost use Rattle.aff_outside.specs.declared.folder.FolderError.TheVariants.{Memory};
 ghost use Rattle.aff_model.specs.Causes.{HasCause};
 ghost use Rattle.aff_model.specs.Held.{Held, appended, bytes_of, IsInside, lengths};
 
+use crate::receipt::{Peek, Telling};
 use std::alloc::{AllocError, AllocFailed};
 use std::marker::Model;
 
@@ -58,6 +59,12 @@ impl Segment {
 }
 
 pub trait Folder: Send + Drop {
+    /// What an append gives.
+    type Receipt: Telling;
+
+    /// What fetches appended bytes again, beside the folder.
+    type Peek: Peek<Self::Receipt>;
+
     /// Whether folders of this type tell what they hold.
     ghost tells: { Bool };
 
@@ -74,10 +81,12 @@ pub trait Folder: Send + Drop {
         ensures same { IsTrue tells → held self.new ≡ held self.old }
         ensures cause { HasCause (folder_faults self.old) (folder_faults self.new) (IsErrOf result FolderError.Failed) };
 
-    /// Adds the bytes at the segment's end. A segment that is not there is made, also for no bytes. After
-    /// `Failed` a part of the bytes may have been added, from their front; after `Memory` none was.
-    fn append(&mut self, name: &str, bytes: &[u8]) -> Result<(), FolderError>
+    /// Adds the bytes at the segment's end, and gives a receipt of them. A segment that is not there is made,
+    /// also for no bytes. After `Failed` a part of the bytes may have been added, from their front; after
+    /// `Memory` none was. Every other segment stays as it was.
+    fn append(&mut self, name: &str, bytes: &[u8]) -> Result<Self::Receipt, FolderError>
         ensures ok { OnOk result (IsTrue tells → held self.new ≡ appended (held self.old) name.now bytes.now) }
+        ensures receipt { IfOk result (λ receipt. IsTrue tells → Self.Receipt.told receipt ≡ bytes.now) }
         ensures part { OnErr result (IsTrue tells → (held self.new ≡ held self.old)
             ⊎ ((n : ℕ) × (n ≤ length bytes.now) × (held self.new ≡ appended (held self.old) name.now (take n bytes.now)))) }
         ensures memory { IsErrOf result FolderError.Memory → IsTrue tells → held self.new ≡ held self.old }
@@ -90,4 +99,14 @@ pub trait Folder: Send + Drop {
         ensures bytes { OnOk result (IsTrue tells → out.new ≡ take (length out.old) (drop at (bytes_of (held self.old) name.now))) }
         ensures same { IsTrue tells → held self.new ≡ held self.old }
         ensures cause { HasCause (folder_faults self.old) (folder_faults self.new) (IsErrOf result FolderError.Failed) };
+
+    /// Gives so many peeks, none of which has failed. What the folder holds stays, whatever the answer.
+    fn peeks(&mut self, count: usize) -> Result<Vec<Self::Peek>, FolderError>
+        ensures count { IfOk result (λ peeks. length peeks.items ≡ count) }
+        ensures fresh { IfOk result (λ peeks. All (λ peek. Self.Peek.peek_faults peek ≡ 0) peeks.items) }
+        ensures same { IsTrue tells → held self.new ≡ held self.old }
+        ensures cause { HasCause (folder_faults self.old) (folder_faults self.new) (IsErrOf result FolderError.Failed) };
+
+    /// Receipts tell exactly where the folder does.
+    ghost receipts_tell: { Self.Receipt.receipt_tells ≡ tells };
 }

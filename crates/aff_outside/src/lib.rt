@@ -2,15 +2,18 @@
 //!
 //! Each is a trait. Its ghost members say what the thing holds, where it tells that, and how often it has
 //! failed: a count of faults never falls, goes up to `u64::MAX` and stays there, and a call answers that it
-//! failed only where the count rose in that call. `FileDevice`, `FileFolder`, `InputSource` and `OutputSink`
-//! stand over the file system and the standard streams, and tell nothing of what they hold.
+//! failed only where the count rose in that call. An append to a folder gives a receipt, with which a peek
+//! fetches the bytes again, beside the folder. `FileDevice`, `FileFolder`, `FilePeek`, `InputSource` and
+//! `OutputSink` stand over the file system and the standard streams, and tell nothing of what they hold.
 #![tactic(auto)]
 
 mod device;
 mod examiner;
+mod file_peek;
 mod files;
 mod folder;
 mod gate;
+mod receipt;
 mod segment;
 mod streams;
 #[cfg(test)]
@@ -19,9 +22,11 @@ mod text;
 
 pub use device::{Device, DeviceFailed};
 pub use examiner::{Examiner, Seen};
+pub use file_peek::{FilePeek, FileReceipt};
 pub use files::{FileDevice, FileFolder};
 pub use folder::{Folder, FolderError, Segment};
 pub use gate::{Gate, GateStep, OpenGate};
+pub use receipt::{Peek, PeekFailed, Telling};
 pub use segment::read_segment;
 pub use streams::{InputSource, OutputSink};
 pub use text::{Sink, SinkError, Source, SourceFailed};
