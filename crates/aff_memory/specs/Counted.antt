@@ -8,6 +8,10 @@ pub record Counted : Type 0 where
   pub made : ℕ
   pub faults : ℕ
 
+-- before the first call
+abbrev pub uncalled : List ℕ → Counted
+uncalled fail = record { fail = fail; made = 0; faults = 0 }
+
 -- one more, or the last value
 abbrev pub raised : ℕ → ℕ
 raised n = min (n + 1) (2 ^ 64 - 1)

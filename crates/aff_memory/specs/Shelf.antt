@@ -8,19 +8,20 @@ use Rattle.std.specs.FinMap as map
 use Rattle.aff_model.specs.Held.{Held}
 use Rattle.aff_memory.specs.Counted.{Counted}
 
--- a folder with its calls
+-- a folder with its calls, and which calls of each of its peeks are to fail
 pub record Shelved : Type 0 where
   pub held : Held
   pub calls : Counted
+  pub peek_fail : List ℕ
 
 abbrev pub held_code : Coded Held
 held_code = map.code (coded_list coded_ℕ) (coded_list coded_ℕ)
 
 abbrev pub shelved_code : Coded Shelved
 shelved_code =
-    code_by (Held × (List ℕ × (ℕ × ℕ))) (coded× held_code (coded× (coded_list coded_ℕ) (coded× coded_ℕ coded_ℕ)))
-    (λ s. (s.held, (s.calls.fail, (s.calls.made, s.calls.faults))))
-    (λ p. record { held = p.0; calls = record { fail = p.1.0; made = p.1.1.0; faults = p.1.1.1 } }) (λ _. refl)
+    code_by (Held × (List ℕ × (List ℕ × (ℕ × ℕ)))) (coded× held_code (coded× (coded_list coded_ℕ) (coded× (coded_list coded_ℕ) (coded× coded_ℕ coded_ℕ))))
+    (λ s. (s.held, (s.peek_fail, (s.calls.fail, (s.calls.made, s.calls.faults)))))
+    (λ p. record { held = p.0; calls = record { fail = p.1.1.0; made = p.1.1.1.0; faults = p.1.1.1.1 }; peek_fail = p.1.0 }) (λ _. refl)
 
 -- sorted entries as a folder
 abbrev pub folder_of : List (List ℕ × List ℕ) → Held

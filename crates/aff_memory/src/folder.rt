@@ -1,11 +1,13 @@
 //! A folder in memory.
-ghost use Rattle.std.specs.Prelude.{◌≡◌, ◌↔◌, ◌≤◌, true, length, take, drop, IfOk, OnOk, OnErr, IsErrOf, IsTrue};
+ghost use Rattle.std.specs.Prelude.{◌≡◌, ◌↔◌, ◌≤◌, true, All, length, take, drop, refl, IfOk, OnOk, OnErr, IsErrOf, IsTrue};
 ghost use Rattle.std.specs.FinMap.{empty};
 ghost use Rattle.aff_model.specs.Causes.{HasCause};
 ghost use Rattle.aff_model.specs.Held.{appended, bytes_of, IsInside, lengths};
-ghost use Rattle.aff_memory.specs.Counted.{fails, counted};
+ghost use Rattle.aff_memory.specs.Counted.{fails, counted, uncalled};
 
+use crate::block::Block;
 use crate::calls::Calls;
+use crate::peek::{MemoryPeek, MemoryReceipt, peeks_of};
 use crate::shelf::Shelf;
 use aff_outside::{Folder, FolderError, Segment};
 use std::alloc::Global;
@@ -14,8 +16,10 @@ use std::marker::Model;
 /// Holds its segments in memory.
 #[derive(Drop)]
 pub struct MemoryFolder {
+    alloc: Global,
     shelf: Shelf,
     calls: Calls,
+    peek_fail: Vec<u64>,
 }
 
 impl Model for MemoryFolder {
@@ -25,21 +29,24 @@ impl Model for MemoryFolder {
 
     ghost coded = { shelved_code };
 
-    ghost view = { λ f. record { held = f.shelf; calls = f.calls } };
+    ghost view = { λ f. record { held = f.shelf; calls = f.calls; peek_fail = f.peek_fail.items } };
 }
 
 impl MemoryFolder {
-    /// A folder with no segment. `fail` lists the calls that are to fail, from 1.
-    pub fn new(alloc: Global, fail: Vec<u64>) -> MemoryFolder
-        ensures { result ≡ record { held = empty; calls = record { fail = fail.items; made = 0; faults = 0 } } }
+    /// A folder with no segment. `fail` lists the calls that are to fail, from 1, and `peek_fail` those of each
+    /// peek.
+    pub fn new(alloc: Global, fail: Vec<u64>, peek_fail: Vec<u64>) -> MemoryFolder
+        ensures { result ≡ record { held = empty; calls = uncalled fail.items; peek_fail = peek_fail.items } }
     {
         MemoryFolder {
+            alloc,
             shelf: Shelf::new(alloc),
             calls: Calls::new(fail),
+            peek_fail,
         }
     }
 
-    /// How many calls of `list`, `append` and `read_at` there were.
+    /// How many calls of `list`, `append`, `read_at` and `peeks` there were.
     pub fn calls(&self) -> u64
         ensures { result ≡ self.now.calls.made }
     {
@@ -48,6 +55,10 @@ impl MemoryFolder {
 }
 
 impl Folder for MemoryFolder {
+    type Receipt = MemoryReceipt;
+
+    type Peek = MemoryPeek;
+
     ghost tells = { true };
 
     ghost held = { λ f. f.held };
@@ -60,6 +71,7 @@ impl Folder for MemoryFolder {
         ensures cause { HasCause self.old.calls.faults self.new.calls.faults (IsErrOf result FolderError.Failed) }
         ensures failed { IsErrOf result FolderError.Failed ↔ IsTrue (fails self.old.calls) }
         ensures calls { self.new.calls ≡ counted self.old.calls }
+        ensures peek_fail { self.new.peek_fail ≡ self.old.peek_fail }
     {
         if self.calls.fails() {
             return Err(FolderError::Failed);
@@ -68,17 +80,22 @@ impl Folder for MemoryFolder {
     }
 
     /// After any error the folder holds what it held.
-    fn append(&mut self, name: &str, bytes: &[u8]) -> Result<(), FolderError>
+    fn append(&mut self, name: &str, bytes: &[u8]) -> Result<MemoryReceipt, FolderError>
         ensures ok { OnOk result (self.new.held ≡ appended self.old.held name.now bytes.now) }
+        ensures receipt { IfOk result (λ receipt. receipt ≡ bytes.now) }
         ensures cause { HasCause self.old.calls.faults self.new.calls.faults (IsErrOf result FolderError.Failed) }
         ensures same { OnErr result (self.new.held ≡ self.old.held) }
         ensures failed { IsErrOf result FolderError.Failed ↔ IsTrue (fails self.old.calls) }
         ensures calls { self.new.calls ≡ counted self.old.calls }
+        ensures peek_fail { self.new.peek_fail ≡ self.old.peek_fail }
     {
         if self.calls.fails() {
             return Err(FolderError::Failed);
         }
-        Ok(self.shelf.append(name, bytes)?)
+        let block = Block::new(self.alloc, bytes)?;
+        let receipt = MemoryReceipt::new(block.share()?);
+        self.shelf.append(name, block)?;
+        Ok(receipt)
     }
 
     /// Takes no memory.
@@ -90,6 +107,7 @@ impl Folder for MemoryFolder {
         ensures failed { IsErrOf result FolderError.Failed ↔ IsTrue (fails self.old.calls) }
         ensures memory { ¬ (IsErrOf result FolderError.Memory) }
         ensures calls { self.new.calls ≡ counted self.old.calls }
+        ensures peek_fail { self.new.peek_fail ≡ self.old.peek_fail }
     {
         if self.calls.fails() {
             return Err(FolderError::Failed);
@@ -97,4 +115,22 @@ impl Folder for MemoryFolder {
         self.shelf.read_at(name, at, out);
         Ok(())
     }
+
+    fn peeks(&mut self, count: usize) -> Result<Vec<MemoryPeek>, FolderError>
+        ensures count { IfOk result (λ peeks. length peeks.items ≡ count) }
+        ensures each { IfOk result (λ peeks. All (λ peek. peek ≡ uncalled self.old.peek_fail) peeks.items) }
+        ensures fresh { IfOk result (λ peeks. All (λ peek. peek.faults ≡ 0) peeks.items) }
+        ensures same { self.new.held ≡ self.old.held }
+        ensures cause { HasCause self.old.calls.faults self.new.calls.faults (IsErrOf result FolderError.Failed) }
+        ensures failed { IsErrOf result FolderError.Failed ↔ IsTrue (fails self.old.calls) }
+        ensures calls { self.new.calls ≡ counted self.old.calls }
+        ensures peek_fail { self.new.peek_fail ≡ self.old.peek_fail }
+    {
+        if self.calls.fails() {
+            return Err(FolderError::Failed);
+        }
+        Ok(peeks_of(self.alloc, &self.peek_fail, count)?)
+    }
+
+    ghost receipts_tell = { refl };
 }

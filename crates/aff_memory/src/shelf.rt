@@ -1,76 +1,17 @@
 //! Segments in memory, sorted by name.
-ghost use Rattle.std.specs.Prelude.{◌≡◌, ◌+◌, ◌≤◌, ◌++◌, length, map as list_map, take, drop, IfOk, IfErr, OnOk, OnErr, IsTrue};
+ghost use Rattle.std.specs.Prelude.{◌≡◌, ◌+◌, ◌≤◌, length, map as list_map, take, drop, IfOk, IfErr, OnOk, OnErr, IsTrue};
 ghost use Rattle.std.specs.Ordering.{nat_cmp};
 ghost use Rattle.std.specs.Cmp.Lexicographic.{slice_cmp};
 ghost use Rattle.std.specs.FinMap as map;
 ghost use Rattle.aff_model.specs.Held.{appended, bytes_of, IsInside, lengths};
 ghost use Rattle.aff_memory.specs.Shelf.{StandsAt, IsGap};
 
+use crate::block::Block;
+use crate::kept::Kept;
 use aff_outside::Segment;
 use std::alloc::{AllocError, Global};
 use std::cmp::Ordering;
 use std::marker::Model;
-
-/// A segment with its bytes.
-#[derive(Drop)]
-pub struct Kept {
-    name: String,
-    bytes: Vec<u8>,
-}
-
-impl Model for Kept {
-    ghost use Rattle.std.specs.Prelude.{List, ℕ};
-    ghost use Rattle.std.specs.String.{string_bytes};
-
-    ghost Value = { List ℕ × List ℕ };
-
-    ghost view = { λ k. (string_bytes k.name, k.bytes.items) };
-}
-
-impl Kept {
-    fn new(alloc: Global, name: &str, bytes: &[u8]) -> Result<Kept, AllocError>
-        ensures { IfOk result (λ kept. kept ≡ (name.now, bytes.now)) }
-    {
-        Ok(Kept {
-            name: String::from_str(alloc, name)?,
-            bytes: bytes.to_vec(alloc)?,
-        })
-    }
-
-    /// How a name stands to this segment's.
-    fn compare(&self, name: &str) -> Ordering
-        ensures { result ≡ slice_cmp nat_cmp name.now self.now.0 }
-    {
-        name.cmp(&self.name.as_str())
-    }
-
-    fn grow(&mut self, bytes: &[u8]) -> Result<(), AllocError>
-        ensures ok { OnOk result (self.new ≡ (self.old.0, self.old.1 ++ bytes.now)) }
-        ensures err { OnErr result (self.new ≡ self.old) }
-        ensures key { self.new.0 ≡ self.old.0 }
-    {
-        self.bytes.extend_from_slice(bytes)
-    }
-
-    /// Copies a part of the bytes.
-    fn copy(&self, at: u64, out: &mut [u8])
-        requires { at + length out.old ≤ length self.now.1 }
-        ensures { out.new ≡ take (length out.old) (drop at self.now.1) }
-    {
-        let rest = &self.bytes.as_slice()[at as usize..];
-        let count = out.len();
-        out.copy_from_slice(&rest[..count]);
-    }
-
-    fn segment(&self, alloc: Global) -> Result<Segment, AllocError>
-        ensures { IfOk result (λ segment. segment ≡ (self.now.0, length self.now.1)) }
-    {
-        Ok(Segment {
-            name: self.name.clone()?,
-            len: self.bytes.len() as u64,
-        })
-    }
-}
 
 /// The place of a name among sorted segments, or the place where it is missing.
 fn place_of(kept: &[Kept], name: &str) -> Result<usize, usize>
@@ -133,14 +74,14 @@ impl Shelf {
         }
     }
 
-    pub fn append(&mut self, name: &str, bytes: &[u8]) -> Result<(), AllocError>
-        ensures ok { OnOk result (self.new ≡ appended self.old name.now bytes.now) }
+    pub fn append(&mut self, name: &str, block: Block) -> Result<(), AllocError>
+        ensures ok { OnOk result (self.new ≡ appended self.old name.now block) }
         ensures err { OnErr result (self.new ≡ self.old) }
     {
         match place_of(&self.kept, name) {
-            Ok(i) => self.kept[i].grow(bytes),
+            Ok(i) => self.kept[i].grow(block),
             Err(i) => {
-                let one = Kept::new(self.alloc, name, bytes)?;
+                let one = Kept::new(self.alloc, name, block)?;
                 self.kept.insert(i, one).map_err(AllocError::from)
             }
         }

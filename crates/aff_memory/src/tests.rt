@@ -1,9 +1,10 @@
 //! What no clause says: that calls succeed where there is memory, and each call once.
-ghost use Rattle.std.specs.Prelude.{◌≡◌, ◌*◌, IfOk, vec_len};
+ghost use Rattle.std.specs.Prelude.{◌≡◌, ◌*◌, IfOk, IfSome, IsTrue, vec_len};
 
 use crate::{FixedDevice, Flaky, FlakyDevice, MemoryFolder, MemorySink, MemorySource};
 use aff_outside::{
-    Device, DeviceFailed, Folder, FolderError, Sink, SinkError, Source, SourceFailed, read_segment,
+    Device, DeviceFailed, Folder, FolderError, Peek, PeekFailed, Sink, SinkError, Source,
+    SourceFailed, read_segment,
 };
 use std::alloc::{AllocError, Global};
 use std::test::Fail;
@@ -53,19 +54,24 @@ fn flaky_device_fails_at_first(rt: HostRuntime) -> Result<(), Fail> {
     Ok(())
 }
 
+/// Names and lengths of all segments.
+fn listed(alloc: Global, folder: &mut MemoryFolder) -> Result<String, Fail> {
+    let mut text = String::new(alloc);
+    for segment in &folder.list().map_err(|_| "list")? {
+        write!(&mut text, "{} {},", segment.name, segment.len)?;
+    }
+    Ok(text)
+}
+
 #[test]
 fn folder_lists_and_reads_what_was_appended(rt: HostRuntime) -> Result<(), Fail> {
     let alloc = rt.alloc();
-    let mut folder = MemoryFolder::new(alloc, Vec::new(alloc));
-    assert_eq!(rt; folder.append("map", &[1, 2]), Ok(()));
-    assert_eq!(rt; folder.append("idx", &[3]), Ok(()));
-    assert_eq!(rt; folder.append("map", &[4]), Ok(()));
-    assert_eq!(rt; folder.append("zero", &[]), Ok(()));
-    let mut listed = String::new(alloc);
-    for segment in &folder.list().map_err(|_| "list")? {
-        write!(&mut listed, "{} {},", segment.name, segment.len)?;
-    }
-    assert_eq!(rt; listed.as_str(), "idx 1,map 3,zero 0,");
+    let mut folder = MemoryFolder::new(alloc, Vec::new(alloc), Vec::new(alloc));
+    assert!(rt; folder.append("map", &[1, 2]).is_ok());
+    assert!(rt; folder.append("idx", &[3]).is_ok());
+    assert!(rt; folder.append("map", &[4]).is_ok());
+    assert!(rt; folder.append("zero", &[]).is_ok());
+    assert_eq!(rt; listed(alloc, &mut folder)?.as_str(), "idx 1,map 3,zero 0,");
     let map = read_segment(alloc, &mut folder, "map").map_err(|_| "map")?;
     assert!(rt; map.ok_or("no map")?.as_slice() == [1, 2, 4].as_slice());
     let none = read_segment(alloc, &mut folder, "nap").map_err(|_| "nap")?;
@@ -77,14 +83,67 @@ fn folder_lists_and_reads_what_was_appended(rt: HostRuntime) -> Result<(), Fail>
 #[test]
 fn folder_fails_at_the_listed_calls(rt: HostRuntime) -> Result<(), Fail> {
     let alloc = rt.alloc();
-    let mut folder = MemoryFolder::new(alloc, vec![in alloc; 2, 3, 5]?);
-    assert_eq!(rt; folder.append("map", &[1]), Ok(()));
-    assert_eq!(rt; folder.append("map", &[2]), Err(FolderError::Failed));
+    let mut folder = MemoryFolder::new(alloc, vec![in alloc; 2, 3, 5]?, Vec::new(alloc));
+    assert!(rt; folder.append("map", &[1]).is_ok());
+    let refused = matches!(folder.append("map", &[2]), Err(FolderError::Failed));
+    assert!(rt; refused);
     assert!(rt; folder.list().is_err());
     assert!(rt; read_segment(alloc, &mut folder, "map").is_err());
     let map = read_segment(alloc, &mut folder, "map").map_err(|_| "map")?;
     assert!(rt; map.ok_or("no map")?.as_slice() == [1].as_slice());
     assert_eq!(rt; folder.calls(), 7);
+    Ok(())
+}
+
+#[test]
+fn peeks_fetch_what_was_appended(rt: HostRuntime) -> Result<(), Fail> {
+    let alloc = rt.alloc();
+    let mut folder = MemoryFolder::new(alloc, Vec::new(alloc), vec![in alloc; 2]?);
+    let first = folder.append("map", &[1, 2]).map_err(|_| "first")?;
+    let second = folder.append("map", &[3, 4]).map_err(|_| "second")?;
+    let mut peeks = folder.peeks(3).map_err(|_| "peeks")?;
+    assert_eq!(rt; peeks.len(), 3);
+    assert_eq!(rt; listed(alloc, &mut folder)?.as_str(), "map 4,");
+    assert!(rt; folder.append("map", &[5]).is_ok());
+    let Some(mut peek) = peeks.pop() else {
+        return Err("no peek".into());
+    };
+    let mut two = [0; 2];
+    assert_eq!(rt; peek.fetch(&first, &mut two), Ok(()));
+    assert!(rt; two == [1, 2]);
+    assert_eq!(rt; peek.fetch(&second, &mut two), Err(PeekFailed));
+    assert_eq!(rt; peek.fetch(&second, &mut two), Ok(()));
+    assert!(rt; two == [3, 4]);
+    assert_eq!(rt; peek.calls(), 3);
+    Ok(())
+}
+
+/// Appends the bytes to any folder, and fetches them again by a peek.
+fn fetched_again<F: Folder>(
+    alloc: Global,
+    folder: &mut F,
+    bytes: &[u8],
+) -> Result<Option<Vec<u8>>, FolderError>
+    ensures { IfOk result (λ found. IfSome found (λ again. IsTrue F.tells → again.items ≡ bytes.now)) }
+{
+    let receipt = folder.append("map", bytes)?;
+    let mut again = bytes.to_vec(alloc)?;
+    again.fill(0);
+    let Some(mut peek) = folder.peeks(1)?.pop() else {
+        return Ok(None);
+    };
+    match peek.fetch(&receipt, &mut again) {
+        Ok(()) => Ok(Some(again)),
+        Err(PeekFailed) => Ok(None),
+    }
+}
+
+#[test]
+fn any_folder_gives_its_bytes_again(rt: HostRuntime) -> Result<(), Fail> {
+    let alloc = rt.alloc();
+    let mut folder = MemoryFolder::new(alloc, Vec::new(alloc), Vec::new(alloc));
+    let again = fetched_again(alloc, &mut folder, &[7, 8]).map_err(|_| "again")?;
+    assert!(rt; again.ok_or("no bytes")?.as_slice() == [7, 8].as_slice());
     Ok(())
 }
 
