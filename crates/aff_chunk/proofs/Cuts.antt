@@ -7,7 +7,8 @@ use Rattle.aff_model.specs.declared.extent.Extent.{Extent}
 use Rattle.aff_model.specs.Legal.{AllRead, NoneRead}
 use Rattle.aff_chunk.specs.declared.kind.Cut.{Cut}
 use Rattle.aff_chunk.specs.declared.kind.Cut.TheVariants.{Zero, Stored, Nothing}
-use Rattle.aff_chunk.specs.Cut.{AreMarks, IsCutBy, IsCutOf, IsZeroPart}
+use Rattle.aff_spec.specs.Chunks.{IsZeroPart}
+use Rattle.aff_chunk.specs.Cut.{AreMarks, IsCutBy, IsCutOf}
 
 get_or-part : {X : Type 0} (xs : List X) (n a k : ℕ) (d : X) → k < n → get_or (take n (drop a xs)) k d ≡ get_or xs (a + k) d
 get_or-part xs n a k d below = get_or-take n (drop a xs) k d below ∙ get_or-drop a xs k d

@@ -8,7 +8,8 @@ use Rattle.aff_model.specs.declared.publication.Place.TheVariants.{Zero as ZeroP
 use Rattle.aff_model.specs.Content.{Content}
 use Rattle.aff_model.specs.Legal.{AllRead, IsPlaceOf, IsZeroChunk}
 use Rattle.aff_chunk.specs.declared.kind.Cut.TheVariants.{Zero, Stored, Nothing}
-use Rattle.aff_chunk.specs.Cut.{IsCutOf, IsZeroPart}
+use Rattle.aff_spec.specs.Chunks.{IsZeroPart}
+use Rattle.aff_chunk.specs.Cut.{IsCutOf}
 
 -- the bytes of an extent's sectors are the content's, but for unreadable ones
 abbrev pub IsReadBeside : Extent → List ℕ → List ℕ → Content → Type 0

@@ -3,12 +3,9 @@ use Rattle.std.specs.Prelude.{◌≡◌, ℕ, ◌+◌, ◌*◌, ◌<◌, ◌≤�
 use Rattle.aff_model.specs.declared.extent.Extent.{Extent}
 use Rattle.aff_model.specs.Plan.{chunk_count}
 use Rattle.aff_model.specs.Legal.{AllRead, NoneRead}
+use Rattle.aff_spec.specs.Chunks.{IsZeroPart}
 use Rattle.aff_chunk.specs.declared.kind.Cut.{Cut}
 use Rattle.aff_chunk.specs.declared.kind.Cut.TheVariants.{Zero, Stored, Nothing}
-
--- all bytes of chunk j are 0
-abbrev pub IsZeroPart : List ℕ → ℕ → Type 0
-IsZeroPart bytes j = (k : ℕ) → 32768 * j ≤ k → k < 32768 * j + 32768 → k < length bytes → slice_index bytes k ≡ 0
 
 -- how chunk j of an extent is cut, by the extent's bytes and its unreadable sectors: Nothing exactly where no sector could
 -- be read, Zero exactly where each could be and all bytes are 0, else Stored
