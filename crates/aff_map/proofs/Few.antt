@@ -12,7 +12,8 @@ use Rattle.aff_model.specs.declared.publication.Place.{Place}
 use Rattle.aff_model.specs.declared.publication.Place.TheVariants.{Chunk}
 use Rattle.aff_model.specs.Plan.{chunk_count}
 use Rattle.aff_model.specs.History.{Part, Published}
-use Rattle.aff_map.specs.Mappable.{AreMappable, IsMappable, IsNumbered, published}
+use Rattle.aff_model.specs.Pieces.{published}
+use Rattle.aff_map.specs.Mappable.{AreMappable, IsMappable, IsNumbered}
 
 has_map : (extents : List Extent) (p : Published) (e : Extent) → slice_get extents p.extent ≡ Some e → IsMappable e p → MatchOption (slice_get extents p.extent) ⊥ (λ f. IsMappable f p)
 has_map extents p e at mappable = subst (λ (o : Option Extent). MatchOption o ⊥ (λ f. IsMappable f p)) (sym at) mappable

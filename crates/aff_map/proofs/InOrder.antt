@@ -17,7 +17,8 @@ use Rattle.aff_model.specs.declared.extent.Extent.{Extent}
 use Rattle.aff_model.specs.History.{Part, Published, publication_of}
 use Rattle.aff_model.specs.Plan.{AreApart}
 use Rattle.aff_map.specs.declared.order.Turn.{Turn}
-use Rattle.aff_map.specs.Mappable.{AreMappable, IsMappable, published}
+use Rattle.aff_model.specs.Pieces.{published}
+use Rattle.aff_map.specs.Mappable.{AreMappable, IsMappable}
 use Rattle.aff_map.specs.Turns.{AreGathered, AreTurns, IsTurnOf}
 
 -- the publication that is read at a place

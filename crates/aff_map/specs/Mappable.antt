@@ -1,18 +1,12 @@
 -- Which pieces have a map.
 use Rattle.std.specs.Prelude.{◌≡◌, ◌<◌, ◌^◌, List, length, map, nat_eq, All, MatchOption, slice_get}
-use Rattle.std.specs.Arc.{arc_value}
-use Rattle.std.specs.declared.sync.Arc.{Arc}
 use Rattle.std.specs.List.{IsDistinct}
 use Rattle.std.specs.List.Sorted.{IsStrictlyIncreasing}
 use Rattle.aff_model.specs.declared.extent.Extent.{Extent}
 use Rattle.aff_model.specs.declared.publication.Place.{Place}
 use Rattle.aff_model.specs.declared.publication.Place.TheVariants.{Zero, Chunk, Nothing}
 use Rattle.aff_model.specs.Plan.{chunk_count}
-use Rattle.aff_model.specs.History.{Part, Published, publication_of}
-
--- the publication that a shared piece is of
-abbrev pub published : {R Z : Type 0} → Arc (Part R) Z → Published
-published piece = publication_of (arc_value piece)
+use Rattle.aff_model.specs.History.{Published}
 
 -- the chunk's number leaves room for places in the stream
 abbrev pub IsNumbered : Place → Type 0

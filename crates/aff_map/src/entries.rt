@@ -4,7 +4,8 @@ ghost use Rattle.aff_model.specs.History.{publication_of};
 ghost use Rattle.aff_fields.specs.Entry.{FitsEntry};
 ghost use Rattle.aff_spec.specs.Runs.{AreGreatestRuns, history_spot, published_spot};
 ghost use Rattle.aff_map.specs.Building.{Adds};
-ghost use Rattle.aff_map.specs.Mappable.{AreMappable, IsMappable, published};
+ghost use Rattle.aff_model.specs.Pieces.{published};
+ghost use Rattle.aff_map.specs.Mappable.{AreMappable, IsMappable};
 
 use crate::chunk::push_extent;
 use crate::order::turns;

@@ -1,7 +1,8 @@
 //! The order of pieces in the image.
 ghost use Rattle.std.specs.Prelude.{◌<◌, map, All, AllPairs, IfOk};
 ghost use Rattle.aff_model.specs.Plan.{AreApart};
-ghost use Rattle.aff_map.specs.Mappable.{AreMappable, published};
+ghost use Rattle.aff_model.specs.Pieces.{published};
+ghost use Rattle.aff_map.specs.Mappable.{AreMappable};
 ghost use Rattle.aff_map.specs.Turns.{AreGathered, AreTurns};
 
 use aff_model::{Extent, Piece};

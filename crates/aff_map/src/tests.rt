@@ -1,7 +1,8 @@
 ghost use Rattle.std.specs.Prelude.{◌≡◌, ◌≢◌, false, ◌/◌, ◌+◌, ◌<◌, ◌≤◌, ◌^◌, IsTrue, IfOk, All, length, map};
 ghost use Rattle.std.specs.List.Sorted.{IsStrictlyIncreasing};
 ghost use Rattle.aff_model.specs.Plan.{chunk_count};
-ghost use Rattle.aff_map.specs.Mappable.{AreMappable, IsNumbered, published};
+ghost use Rattle.aff_model.specs.Pieces.{published};
+ghost use Rattle.aff_map.specs.Mappable.{AreMappable, IsNumbered};
 
 use crate::{Target, entries_of, symbol};
 use aff_fields::Entry;

@@ -1,7 +1,7 @@
 use Rattle.std.proofs.Common.{◌≡◌, List, length, get_or, map, sym, subst, arith}
 use Rattle.aff_model.specs.History.{publication_of}
 use Rattle.aff_fields.specs.declared.entry.Entry.{Entry}
-use Rattle.aff_map.specs.Mappable.{published}
+use Rattle.aff_model.specs.Pieces.{published}
 use Rattle.aff_map.proofs.InOrder.{piece_at}
 use Rattle.aff_map.proofs.Spots.{AreTurns-read, IsMapOf, IsMapOf-inside, IsMapOf-more, IsMapOf-none, IsMapOf-runs, turn_extent, turn_in_range, turn_mappable}
 use Rattle.aff_map.proofs.entries.runs_of.Goals as goal

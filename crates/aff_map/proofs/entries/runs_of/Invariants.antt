@@ -1,5 +1,5 @@
 use Rattle.std.proofs.Common.{map}
-use Rattle.aff_map.specs.Mappable.{published}
+use Rattle.aff_model.specs.Pieces.{published}
 use Rattle.aff_map.proofs.Spots.{IsMapOf}
 use Rattle.aff_map.proofs.entries.runs_of.Given as goal
 

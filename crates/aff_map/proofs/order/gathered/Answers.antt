@@ -3,7 +3,7 @@ use Rattle.std.specs.List.{All}
 use Rattle.std.proofs.lemmas.List.{length_push}
 use Rattle.std.proofs.lemmas.List.Elements.{All-push}
 use Rattle.aff_map.specs.declared.order.Turn.{Turn}
-use Rattle.aff_map.specs.Mappable.{published}
+use Rattle.aff_model.specs.Pieces.{published}
 use Rattle.aff_map.specs.Turns.{IsTurnOf}
 use Rattle.aff_map.proofs.InOrder.{gathered_more, piece_in_range, turn_of_piece}
 use Rattle.aff_map.proofs.order.gathered.Goals as goal

@@ -1,7 +1,7 @@
 use Rattle.std.proofs.Common.{◌≡◌, ℕ, ◌<◌, length, get_or, map}
 use Rattle.std.specs.List.{All}
 use Rattle.aff_map.specs.declared.order.Turn.{Turn}
-use Rattle.aff_map.specs.Mappable.{published}
+use Rattle.aff_model.specs.Pieces.{published}
 use Rattle.aff_map.specs.Turns.{IsTurnOf}
 use Rattle.aff_map.proofs.order.gathered.Given as goal
 

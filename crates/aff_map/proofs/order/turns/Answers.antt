@@ -1,7 +1,7 @@
 use Rattle.std.proofs.Common.{map, rules}
 use Rattle.std.proofs.lemmas.List.Sorted.{IsNonDecreasingBy-from_sort_by_key}
 use Rattle.aff_map.specs.declared.order.Turn.{Turn}
-use Rattle.aff_map.specs.Mappable.{published}
+use Rattle.aff_model.specs.Pieces.{published}
 use Rattle.aff_map.proofs.InOrder.{AreTurns-from_sort}
 use Rattle.aff_map.proofs.order.turns.Goals as goal
 
