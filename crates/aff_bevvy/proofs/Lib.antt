@@ -1,0 +1,6 @@
+mod ChunkPoints
+mod Closing
+mod FirstFaults
+mod Lengths
+mod Listing
+mod Parts
