@@ -1,0 +1,3 @@
+pub mod BevvyByBevvy
+pub mod Comparing
+pub mod Joined
