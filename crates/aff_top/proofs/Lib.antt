@@ -1,8 +1,16 @@
+pub mod Closings
 pub mod Devices
 pub mod Digits
+pub mod Endings
+pub mod FirstPlaces
+pub mod Following
 pub mod FourWords
+pub mod Joining
 pub mod Making
 pub mod Mappables
-pub mod Places
+pub mod Placings
 pub mod PlanTexts
 pub mod States
+pub mod Storings
+pub mod Takings
+pub mod Walkables

@@ -2,7 +2,7 @@
 use Rattle.std.specs.Prelude.{◌≡◌, ◌≤◌, ◌⊎◌, ◌==◌, ℕ, List, [], length, take, codes, Option, if◌then◌else◌}
 use Rattle.std.specs.Io.KnownBytes.{Appends, Keeps}
 use Rattle.aff_top.specs.declared.fault.Fault.{Fault}
-use Rattle.aff_top.specs.declared.fault.Fault.TheVariants.{Usage, Devices, Source, Text, Reading, Folder, Memory}
+use Rattle.aff_top.specs.declared.fault.Fault.TheVariants.{Usage, Devices, Source, Text, Folder, Memory}
 
 -- a status that an acquisition may have: done, words, text, source, sink, folder, memory, devices
 abbrev pub IsStatus : ℕ → Type 0
@@ -26,7 +26,6 @@ status_of Source = 4
 status_of Folder = 6
 status_of Memory = 7
 status_of Devices = 10
-status_of Reading = 10
 
 -- a text was written in part
 abbrev pub IsCutShort : Option (List ℕ) → Option (List ℕ) → List ℕ → Type 0

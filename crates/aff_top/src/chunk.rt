@@ -1,87 +1,74 @@
-//! An extent's bytes, chunk by chunk, into a bevvy.
-ghost use Rattle.std.specs.Prelude.{◌≡◌, ◌⊎◌, ◌+◌, ◌*◌, ◌<◌, ◌≤◌, ◌%◌, [], ◌∷◌, length, replicate, All, IfErr, OnOk, OnErr, IsErrOf, IsTrue};
+//! An extent's bytes, chunk by chunk, into a stream.
+ghost use Rattle.std.specs.Prelude.{◌≡◌, ◌⊎◌, ◌+◌, ◌<◌, ◌≤◌, ◌/◌, ◌++◌, ◌∷◌, [], ℕ, List, length, IfErr, OnOk, OnErr, IsErrOf, IsTrue};
 ghost use Rattle.aff_model.specs.Causes.{HasCause};
-ghost use Rattle.aff_model.specs.Plan.{chunk_count, chunks_of};
-ghost use Rattle.aff_spec.specs.Appends.{applied, Reaches, appends_to};
-ghost use Rattle.aff_spec.specs.Chunks.{chunk_at, chunks_in};
+ghost use Rattle.aff_model.specs.Plan.{chunk_count};
+ghost use Rattle.aff_spec.specs.Appends.{applied, Reaches};
+ghost use Rattle.aff_spec.specs.Bevvies.{more_appends};
+ghost use Rattle.aff_spec.specs.Chunks.{chunks_from, stored_chunks};
+ghost use Rattle.aff_top.specs.Output.{HasWritten};
 
 use crate::fault::Fault;
-use aff_model::Extent;
-use aff_outside::{Folder, FolderError};
+use crate::stream::Stream;
+use aff_chunk::pad;
+use aff_model::Place;
+use aff_outside::Folder;
+use std::alloc::Global;
 
-/// Bytes of a chunk.
-pub const CHUNK: usize = 32_768;
-
-/// How many chunks a length in bytes has.
-pub fn chunks_in_len(len: u64) -> u64
-    ensures { result ≡ chunk_count len }
-{
-    len.div_ceil(CHUNK as u64)
-}
-
-/// How many chunks some extents have together.
-pub fn count_chunks(extents: &[Extent]) -> u64
-    requires few { length extents.now ≤ 65536 }
-    requires short { All (λ e. e.len ≤ 16777216) extents.now }
-    ensures { result ≡ chunks_of extents.now }
-{
-    let mut count = 0;
-    for extent in extents {
-        count += chunks_in_len(extent.len);
-    }
-    count
-}
-
-/// Makes all bytes 0.
-fn clear(out: &mut [u8])
-    ensures { out.new ≡ replicate (length out.old) 0 }
-{
-    out.fill(0);
-}
-
-/// Copies chunk `place` of some bytes to `chunk`, with zeros behind it.
-fn pad(bytes: &[u8], place: usize, chunk: &mut [u8])
-    requires within { 32768 * place < length bytes.now }
-    requires room { length chunk.old ≡ 32768 }
-    ensures { chunk.new ≡ chunk_at bytes.now place }
-{
-    let rest = &bytes[place * CHUNK..];
-    let count = rest.len().min(CHUNK);
-    clear(chunk);
-    chunk[..count].copy_from_slice(&rest[..count]);
-}
-
-/// One append.
-pub fn append<F: Folder>(folder: &mut F, name: &str, bytes: &[u8]) -> Result<(), Fault>
-    ensures ok { OnOk result (IsTrue F.tells → F.held folder.new ≡ applied (F.held folder.old) ((name.now, bytes.now) ∷ [])) }
-    ensures part { OnErr result (IsTrue F.tells → Reaches (F.held folder.old) ((name.now, bytes.now) ∷ []) (F.held folder.new)) }
-    ensures cause { HasCause (F.folder_faults folder.old) (F.folder_faults folder.new) (IsErrOf result Fault.Folder) }
-    ensures fault { IfErr result (λ e. (e ≡ Fault.Folder) ⊎ (e ≡ Fault.Memory)) }
-{
-    match folder.append(name, bytes) {
-        Ok(()) => Ok(()),
-        Err(FolderError::Failed) => Err(Fault::Folder),
-        Err(FolderError::Memory) => Err(Fault::Memory),
-    }
-}
-
-/// Appends the chunks of an extent's bytes, through a buffer of one chunk.
-pub fn store_chunks<F: Folder>(
+/// Appends a chunk of an extent's bytes, through a buffer of one chunk, where its place is in the stream.
+fn store_chunk<F: Folder>(
+    alloc: Global,
     folder: &mut F,
-    bevvy: &str,
+    stream: &mut Stream,
     bytes: &[u8],
+    number: usize,
+    place: Place,
     chunk: &mut [u8],
 ) -> Result<(), Fault>
+    requires there { number < chunk_count (length bytes.now) }
     requires room { length chunk.old ≡ 32768 }
-    ensures ok { OnOk result (IsTrue F.tells → F.held folder.new ≡ applied (F.held folder.old) (appends_to bevvy.now (chunks_in bytes.now))) }
-    ensures part { OnErr result (IsTrue F.tells → Reaches (F.held folder.old) (appends_to bevvy.now (chunks_in bytes.now)) (F.held folder.new)) }
+    requires chunks { stream.old.count < 102400000000 }
+    requires bevvies { stream.old.bevvy < 100000000 }
+    ensures ok { OnOk result ((before : List (List ℕ)) → HasWritten stream.old.stream before stream.old
+        → HasWritten stream.old.stream (before ++ chunks_from bytes.now number (place ∷ [])) stream.new
+        × (IsTrue F.tells → F.held folder.new ≡ applied (F.held folder.old) (more_appends stream.old.stream before (chunks_from bytes.now number (place ∷ []))))) }
+    ensures part { OnErr result ((before : List (List ℕ)) → HasWritten stream.old.stream before stream.old
+        → IsTrue F.tells → Reaches (F.held folder.old) (more_appends stream.old.stream before (chunks_from bytes.now number (place ∷ []))) (F.held folder.new)) }
     ensures cause { HasCause (F.folder_faults folder.old) (F.folder_faults folder.new) (IsErrOf result Fault.Folder) }
     ensures fault { IfErr result (λ e. (e ≡ Fault.Folder) ⊎ (e ≡ Fault.Memory)) }
 {
-    let count = chunks_in_len(bytes.len() as u64) as usize;
-    for place in 0..count {
-        pad(bytes, place, chunk);
-        if let Err(fault) = append(folder, bevvy, chunk) {
+    match place {
+        Place::Chunk(_) => {
+            pad(bytes, number, chunk);
+            stream.append_chunk(alloc, folder, chunk)
+        }
+        Place::Zero => Ok(()),
+        Place::Nothing => Ok(()),
+    }
+}
+
+/// Appends the stored chunks of an extent's bytes, by the place of each chunk.
+pub fn store_chunks<F: Folder>(
+    alloc: Global,
+    folder: &mut F,
+    stream: &mut Stream,
+    bytes: &[u8],
+    places: &[Place],
+    chunk: &mut [u8],
+) -> Result<(), Fault>
+    requires count { length places.now ≡ chunk_count (length bytes.now) }
+    requires room { length chunk.old ≡ 32768 }
+    requires few { length places.now ≤ 512 }
+    requires written { (before : List (List ℕ)) × HasWritten stream.old.stream before stream.old × (length before ≤ 33554432) }
+    ensures ok { OnOk result ((before : List (List ℕ)) → HasWritten stream.old.stream before stream.old → length before ≤ 33554432
+        → HasWritten stream.old.stream (before ++ stored_chunks bytes.now places.now) stream.new
+        × (IsTrue F.tells → F.held folder.new ≡ applied (F.held folder.old) (more_appends stream.old.stream before (stored_chunks bytes.now places.now)))) }
+    ensures part { OnErr result ((before : List (List ℕ)) → HasWritten stream.old.stream before stream.old → length before ≤ 33554432
+        → IsTrue F.tells → Reaches (F.held folder.old) (more_appends stream.old.stream before (stored_chunks bytes.now places.now)) (F.held folder.new)) }
+    ensures cause { HasCause (F.folder_faults folder.old) (F.folder_faults folder.new) (IsErrOf result Fault.Folder) }
+    ensures fault { IfErr result (λ e. (e ≡ Fault.Folder) ⊎ (e ≡ Fault.Memory)) }
+{
+    for (number, place) in places.iter().enumerate() {
+        if let Err(fault) = store_chunk(alloc, folder, stream, bytes, number, *place, chunk) {
             return Err(fault);
         }
     }

@@ -35,17 +35,18 @@ fn acquire_sized<C: Case, F: Folder, S: Source>(
     requires told { IfSome C.content (λ c. device_content device.old ≡ Some c) }
     requires uuid { is_uuid uuid.now ≡ true }
     requires size { size ≡ device_size device.old }
+    requires small { size ≤ 17592186044416 }
     requires empty { IsTrue F.tells → F.held folder.old ≡ empty }
     ensures done { IfOk result (λ report. Acquired uuid.now size C.content (S.left source.old) F.tells (F.held folder.new) (string_bytes report)) }
     ensures whole { OnOk result (IsAtEnd (S.left source.new)) }
     ensures text { IsErrOf result Fault.Text → IfSome (S.left source.old) (IsRefusedText size) }
     ensures early { (IsErrOf result Fault.Text) ⊎ (IsErrOf result Fault.Source) → folder.new ≡ folder.old }
-    ensures late { (IsErrOf result Fault.Reading) ⊎ (IsErrOf result Fault.Folder)
+    ensures late { IsErrOf result Fault.Folder
         → IsInterrupted uuid.now size C.content (S.left source.old) F.tells (F.held folder.new) }
     ensures memory { IsErrOf result Fault.Memory → (folder.new ≡ folder.old) ⊎ IsInterrupted uuid.now size C.content (S.left source.old) F.tells (F.held folder.new) }
     ensures content { device_content device.new ≡ device_content device.old }
     ensures size { device_size device.new ≡ device_size device.old }
-    ensures reading { HasCause (device_faults device.old) (device_faults device.new) (IsErrOf result Fault.Reading) }
+    ensures later { device_faults device.old ≤ device_faults device.new }
     ensures source { HasCause (S.source_faults source.old) (S.source_faults source.new) (IsErrOf result Fault.Source) }
     ensures folder { HasCause (F.folder_faults folder.old) (F.folder_faults folder.new) (IsErrOf result Fault.Folder) }
     ensures usage { IsErrOf result Fault.Usage → ⊥ }
@@ -79,13 +80,13 @@ pub fn acquire_device<C: Case, F: Folder, S: Source>(
     ensures text { IsErrOf result Fault.Text → IfSome (S.left source.old) (IsRefusedText (device_size device.old)) }
     ensures early { (IsErrOf result Fault.Text) ⊎ (IsErrOf result Fault.Source) ⊎ (IsErrOf result Fault.Devices) → folder.new ≡ folder.old }
     ensures unread { IsErrOf result Fault.Devices → source.new ≡ source.old }
-    ensures late { (IsErrOf result Fault.Reading) ⊎ (IsErrOf result Fault.Folder)
+    ensures late { IsErrOf result Fault.Folder
         → IsInterrupted uuid.now (device_size device.old) C.content (S.left source.old) F.tells (F.held folder.new) }
     ensures memory { IsErrOf result Fault.Memory
         → (folder.new ≡ folder.old) ⊎ IsInterrupted uuid.now (device_size device.old) C.content (S.left source.old) F.tells (F.held folder.new) }
     ensures content { device_content device.new ≡ device_content device.old }
     ensures size { device_size device.new ≡ device_size device.old }
-    ensures reading { HasCause (device_faults device.old) (device_faults device.new) (IsErrOf result Fault.Reading) }
+    ensures later { device_faults device.old ≤ device_faults device.new }
     ensures source { HasCause (S.source_faults source.old) (S.source_faults source.new) (IsErrOf result Fault.Source) }
     ensures folder { HasCause (F.folder_faults folder.old) (F.folder_faults folder.new) (IsErrOf result Fault.Folder) }
     ensures usage { IsErrOf result Fault.Usage → ⊥ }

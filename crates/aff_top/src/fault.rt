@@ -1,19 +1,19 @@
 //! What ends a run early.
-ghost use Rattle.std.specs.Prelude.{◌≡◌};
+ghost use Rattle.std.specs.Prelude.{◌≡◌, ◌⊎◌};
 ghost use Rattle.aff_top.specs.declared.fault.Fault.TheVariants.{Memory};
 
 use aff_model::Memory as NoMemory;
+use aff_outside::FolderError;
 use std::alloc::{AllocError, AllocFailed};
 
 /// The first fault of a run, in the order in which a run goes: the words, the devices that were handed in,
-/// the source, its text, a reading, the folder. `Memory` can come anywhere.
+/// the source, its text, the folder. `Memory` can come anywhere.
 #[derive(Clone, Copy, Debug, PartialEq, Eq)]
 pub enum Fault {
     Usage,
     Devices,
     Source,
     Text,
-    Reading,
     Folder,
     Memory,
 }
@@ -39,5 +39,16 @@ impl<T: Drop> From<AllocFailed<T>> for Fault {
 
     fn from(_: AllocFailed<T>) -> Self {
         Fault::Memory
+    }
+}
+
+/// What a folder's error is to a run.
+pub fn fault_of_folder(error: FolderError) -> Fault
+    ensures folder { result ≡ Fault.Folder → error ≡ FolderError.Failed }
+    ensures only { (result ≡ Fault.Folder) ⊎ (result ≡ Fault.Memory) }
+{
+    match error {
+        FolderError::Failed => Fault::Folder,
+        FolderError::Memory => Fault::Memory,
     }
 }

@@ -8,11 +8,12 @@ mod extents;
 mod fault;
 mod line;
 mod pieces;
+mod places;
 mod plan;
-mod report;
 mod run;
 mod segments;
 mod source;
+mod stream;
 mod wanted;
 mod words;
 

@@ -3,20 +3,16 @@ ghost use Rattle.std.specs.Prelude.{◌≡◌, ◌≢◌, ◌⊎◌, ◌≤◌, 
 ghost use Rattle.std.specs.List.{AllByRecursion};
 ghost use Rattle.aff_model.specs.declared.extent.Extent.{Extent};
 ghost use Rattle.aff_model.specs.Causes.{HasCause};
-ghost use Rattle.aff_model.specs.Plan.{IsPlan, chunks_of};
+ghost use Rattle.aff_model.specs.Plan.{IsPlan};
 ghost use Rattle.aff_spec.specs.PlanText.{FitsExtent, plan_text, IsPlanText, IsRefusedText};
 ghost use Rattle.std.specs.Io.KnownBytes.{IsAtEnd};
 
-use crate::chunk::count_chunks;
 use crate::fault::Fault;
 use crate::line::{read_line, split_line};
 use crate::source::read_text;
 use aff_model::{Extent, MAX_TEXT, Plan, PlanFault};
 use aff_outside::Source;
 use std::alloc::{AllocError, Global};
-
-/// The most chunks of a volume whose stream is one bevvy.
-const MAX_CHUNKS: u64 = 1_024;
 
 /// Reads a text that is the lines of some extents, and no other.
 fn read_extents(alloc: Global, text: &[u8]) -> Result<Option<Vec<Extent>>, AllocError>
@@ -62,20 +58,14 @@ fn plan_of(alloc: Global, text: &[u8], size: u64) -> Result<Plan, Fault>
         return Err(Fault::Text);
     };
     match Plan::of(alloc, extents, size) {
-        Ok(plan) => {
-            if count_chunks(plan.extents()) <= MAX_CHUNKS {
-                Ok(plan)
-            } else {
-                Err(Fault::Text)
-            }
-        }
+        Ok(plan) => Ok(plan),
         Err(fault) => Err(fault_of(fault)),
     }
 }
 
 /// The plan that is all the text of a source, over a device of a size.
 pub fn read_plan<S: Source>(alloc: Global, source: &mut S, size: u64) -> Result<Plan, Fault>
-    ensures plan { IfOk result (λ p. IsPlan size p.extents × (chunks_of p.extents ≤ 1024) × (p.size ≡ size)) }
+    ensures plan { IfOk result (λ p. IsPlan size p.extents × (p.size ≡ size)) }
     ensures text { IfOk result (λ p. IfSome (S.left source.old) (IsPlanText size p.extents)) }
     ensures whole { IfOk result (λ _. IsAtEnd (S.left source.new)) }
     ensures refused { IsErrOf result Fault.Text → IfSome (S.left source.old) (IsRefusedText size) }

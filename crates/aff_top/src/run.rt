@@ -58,12 +58,12 @@ fn acquire_first<C: Case, F: Folder, S: Source>(
     ensures text { IsErrOf result Fault.Text → All (λ d. IfSome (S.left source.old) (IsRefusedText (device_size d))) devices.old.items }
     ensures early { (IsErrOf result Fault.Text) ⊎ (IsErrOf result Fault.Source) ⊎ (IsErrOf result Fault.Devices) → folder.new ≡ folder.old }
     ensures unread { IsErrOf result Fault.Devices → source.new ≡ source.old }
-    ensures late { (IsErrOf result Fault.Reading) ⊎ (IsErrOf result Fault.Folder)
+    ensures late { IsErrOf result Fault.Folder
         → All (λ d. IsInterrupted uuid.now (device_size d) C.content (S.left source.old) F.tells (F.held folder.new)) devices.old.items }
     ensures memory { IsErrOf result Fault.Memory
         → (folder.new ≡ folder.old) ⊎ All (λ d. IsInterrupted uuid.now (device_size d) C.content (S.left source.old) F.tells (F.held folder.new)) devices.old.items }
-    ensures reading { (k : ℕ) (d : _) → k < length devices.old.items
-        → HasCause (device_faults (slice_index_or devices.old.items k d)) (device_faults (slice_index_or devices.new.items k d)) (IsErrOf result Fault.Reading) }
+    ensures faults { (k : ℕ) (d : _) → k < length devices.old.items
+        → device_faults (slice_index_or devices.old.items k d) ≤ device_faults (slice_index_or devices.new.items k d) }
     ensures source { HasCause (S.source_faults source.old) (S.source_faults source.new) (IsErrOf result Fault.Source) }
     ensures folder { HasCause (F.folder_faults folder.old) (F.folder_faults folder.new) (IsErrOf result Fault.Folder) }
     ensures usage { IsErrOf result Fault.Usage → ⊥ }
@@ -101,12 +101,12 @@ fn acquire_words<C: Case, F: Folder, S: Source>(
     ensures early { (IsErrOf result Fault.Usage) ⊎ ((IsErrOf result Fault.Text) ⊎ ((IsErrOf result Fault.Source) ⊎ (IsErrOf result Fault.Devices))) → folder.new ≡ folder.old }
     ensures unread { (IsErrOf result Fault.Usage) ⊎ (IsErrOf result Fault.Devices) → source.new ≡ source.old }
     ensures untouched { IsErrOf result Fault.Usage → devices.new.items ≡ devices.old.items }
-    ensures late { (IsErrOf result Fault.Reading) ⊎ (IsErrOf result Fault.Folder)
+    ensures late { IsErrOf result Fault.Folder
         → All (λ d. IsInterrupted (uuid_of (map (λ w. w.now) words.now)) (device_size d) C.content (S.left source.old) F.tells (F.held folder.new)) devices.old.items }
     ensures memory { IsErrOf result Fault.Memory
         → (folder.new ≡ folder.old) ⊎ All (λ d. IsInterrupted (uuid_of (map (λ w. w.now) words.now)) (device_size d) C.content (S.left source.old) F.tells (F.held folder.new)) devices.old.items }
-    ensures reading { (k : ℕ) (d : _) → k < length devices.old.items
-        → HasCause (device_faults (slice_index_or devices.old.items k d)) (device_faults (slice_index_or devices.new.items k d)) (IsErrOf result Fault.Reading) }
+    ensures faults { (k : ℕ) (d : _) → k < length devices.old.items
+        → device_faults (slice_index_or devices.old.items k d) ≤ device_faults (slice_index_or devices.new.items k d) }
     ensures source { HasCause (S.source_faults source.old) (S.source_faults source.new) (IsErrOf result Fault.Source) }
     ensures folder { HasCause (F.folder_faults folder.old) (F.folder_faults folder.new) (IsErrOf result Fault.Folder) }
     ensures count { length devices.new.items ≡ length devices.old.items }
@@ -132,7 +132,7 @@ fn status_of_fault(fault: Fault) -> u8
     ensures source { result ≡ 4 → fault ≡ Fault.Source }
     ensures folder { result ≡ 6 → fault ≡ Fault.Folder }
     ensures memory { result ≡ 7 → fault ≡ Fault.Memory }
-    ensures devices { result ≡ 10 → (fault ≡ Fault.Devices) ⊎ (fault ≡ Fault.Reading) }
+    ensures devices { result ≡ 10 → fault ≡ Fault.Devices }
     ensures is_one { (result ≢ 0) × (result ≢ 5) × IsStatus result }
 {
     match fault {
@@ -142,7 +142,6 @@ fn status_of_fault(fault: Fault) -> u8
         Fault::Folder => 6,
         Fault::Memory => 7,
         Fault::Devices => 10,
-        Fault::Reading => 10,
     }
 }
 
@@ -156,7 +155,6 @@ fn line_of_fault(fault: Fault) -> &'static [u8]
         Fault::Folder => b"error folder\n",
         Fault::Memory => b"error memory\n",
         Fault::Devices => b"error devices unbuilt\n",
-        Fault::Reading => b"error devices unbuilt\n",
     }
 }
 
@@ -167,7 +165,7 @@ fn tell_fault<K: Sink>(sink: &mut K, fault: Fault) -> u8
     ensures text { result ≡ 3 → fault ≡ Fault.Text }
     ensures source { result ≡ 4 → fault ≡ Fault.Source }
     ensures folder { result ≡ 6 → fault ≡ Fault.Folder }
-    ensures devices { result ≡ 10 → (fault ≡ Fault.Devices) ⊎ (fault ≡ Fault.Reading) }
+    ensures devices { result ≡ 10 → fault ≡ Fault.Devices }
     ensures is_one { (result ≢ 0) × (result ≢ 5) × IsStatus result }
     ensures line { IsLine (K.written sink.old) (K.written sink.new) (Rose (K.sink_faults sink.old) (K.sink_faults sink.new)) result }
 {
@@ -204,7 +202,7 @@ fn tell<K: Sink>(sink: &mut K, outcome: &Result<String, Fault>) -> u8
     ensures text { result ≡ 3 → IsErrOf outcome.now Fault.Text }
     ensures source { result ≡ 4 → IsErrOf outcome.now Fault.Source }
     ensures folder { result ≡ 6 → IsErrOf outcome.now Fault.Folder }
-    ensures devices { result ≡ 10 → (IsErrOf outcome.now Fault.Devices) ⊎ (IsErrOf outcome.now Fault.Reading) }
+    ensures devices { result ≡ 10 → IsErrOf outcome.now Fault.Devices }
     ensures sized { IsErrOf outcome.now Fault.Devices → (result ≡ 10) ⊎ (result ≡ 7) }
     ensures line { result ≢ 0 → result ≢ 5 → IsLine (K.written sink.old) (K.written sink.new) (Rose (K.sink_faults sink.old) (K.sink_faults sink.new)) result }
 {
@@ -216,7 +214,8 @@ fn tell<K: Sink>(sink: &mut K, outcome: &Result<String, Fault>) -> u8
 
 /// Does what the words ask for, over what is handed in, and answers the status. `acquire` reads its plan
 /// from the source, acquires from the one device into the folder, and writes the report to the sink; the
-/// line of a fault is written in its place.
+/// line of a fault is written in its place. The report ends with four digests of all bytes of the image, a
+/// line each: MD5, SHA-1, SHA-256 and SHA-512.
 pub fn run_words<C: Case, F: Folder, S: Source, K: Sink, G: Gate>(
     alloc: Global,
     words: &[&str],
@@ -243,18 +242,16 @@ pub fn run_words<C: Case, F: Folder, S: Source, K: Sink, G: Gate>(
     ensures words { ¬ (IsAcquire (map (λ w. w.now) words.now)) → (result.status ≡ 2) ⊎ (result.status ≡ 7) }
     ensures unread { result.status ≡ 2 → (source.new ≡ source.old) × (result.devices.items ≡ devices.items) }
 
-    // The devices that were handed in, and a reading that failed.
+    // The devices that were handed in.
     ensures devices { result.status ≡ 10
-        → (IsAcquire (map (λ w. w.now) words.now) × (¬ ((length devices.items ≡ 1) × All (λ d. IsDeviceSize (device_size d)) devices.items)) × (result.folder ≡ folder))
-        ⊎ (((k : ℕ) (d : _) → k < length devices.items → Rose (device_faults (slice_index_or devices.items k d)) (device_faults (slice_index_or result.devices.items k d)))
-        × All (λ d. IsInterrupted (uuid_of (map (λ w. w.now) words.now)) (device_size d) C.content (S.left source.old) F.tells (F.held result.folder)) devices.items) }
+        → IsAcquire (map (λ w. w.now) words.now) × (¬ ((length devices.items ≡ 1) × All (λ d. IsDeviceSize (device_size d)) devices.items)) }
     ensures sized { IsAcquire (map (λ w. w.now) words.now)
         → ¬ ((length devices.items ≡ 1) × All (λ d. IsDeviceSize (device_size d)) devices.items) → (result.status ≡ 10) ⊎ (result.status ≡ 7) }
 
     // The source and its text.
     ensures source { result.status ≡ 4 → Rose (S.source_faults source.old) (S.source_faults source.new) }
     ensures text { result.status ≡ 3 → All (λ d. IfSome (S.left source.old) (IsRefusedText (device_size d))) devices.items }
-    ensures unchanged { (result.status ≡ 2) ⊎ ((result.status ≡ 3) ⊎ (result.status ≡ 4)) → result.folder ≡ folder }
+    ensures unchanged { (result.status ≡ 2) ⊎ ((result.status ≡ 3) ⊎ ((result.status ≡ 4) ⊎ (result.status ≡ 10))) → result.folder ≡ folder }
 
     // The folder and the sink.
     ensures folder { result.status ≡ 6 → Rose (F.folder_faults folder) (F.folder_faults result.folder) }

@@ -1,40 +1,19 @@
-//! The segments of a volume behind its chunks, and their names.
-ghost use Rattle.std.specs.Prelude.{◌≡◌, ◌⊎◌, ◌≤◌, ◌==◌, [], ◌∷◌, true, IfOk, IfErr, OnOk, OnErr, IsErrOf, IsTrue, if◌then◌else◌};
+//! The segments of a volume behind its stream, and their names.
+ghost use Rattle.std.specs.Prelude.{◌≡◌, ◌⊎◌, [], ◌∷◌, true, IfOk, IfErr, OnOk, OnErr, IsErrOf, IsTrue};
 ghost use Rattle.std.specs.String.{string_bytes};
 ghost use Rattle.std.specs.List.{flat_map};
 ghost use Rattle.aff_model.specs.Causes.{HasCause};
 ghost use Rattle.aff_fields.specs.Entry.{entry_bytes};
-ghost use Rattle.aff_fields.specs.Point.{point_bytes};
 ghost use Rattle.aff_spec.specs.Appends.{applied, Reaches};
-ghost use Rattle.aff_spec.specs.Acquired.{index_appends, map_appends};
-ghost use Rattle.aff_spec.specs.Names.{bevvy_name, index_name, map_name, idx_name, stream_urn, image_urn};
-ghost use Rattle.aff_spec.specs.Streams.{full_points};
+ghost use Rattle.aff_spec.specs.Names.{map_name, idx_name, stream_urn, image_urn};
 ghost use Rattle.aff_spec.specs.Volumes.{targets_text};
 ghost use Rattle.aff_spec.specs.Words.{is_uuid};
 
-use crate::chunk::append;
-use crate::fault::Fault;
-use aff_fields::{Entry, Point, write_entries, write_points};
+use crate::fault::{Fault, fault_of_folder};
+use aff_fields::{Entry, write_entries};
 use aff_outside::Folder;
 use std::alloc::{AllocError, Global};
 use std::marker::Model;
-
-/// The name of the one bevvy of a volume's stream.
-#[tactic(auto, using(aff_spec::proofs::Names::bevvy_name_is))]
-pub fn name_of_bevvy(alloc: Global, uuid: &str) -> Result<String, AllocError>
-    requires { is_uuid uuid.now ≡ true }
-    ensures { IfOk result (λ name. string_bytes name ≡ bevvy_name (stream_urn uuid.now) 0) }
-{
-    format!(in alloc; "aff4%3A%2F%2F{uuid}%2Fdata/00000000")
-}
-
-#[tactic(auto, using(aff_spec::proofs::Names::index_name_is))]
-fn name_of_index(alloc: Global, uuid: &str) -> Result<String, AllocError>
-    requires { is_uuid uuid.now ≡ true }
-    ensures { IfOk result (λ name. string_bytes name ≡ index_name (stream_urn uuid.now) 0) }
-{
-    format!(in alloc; "aff4%3A%2F%2F{uuid}%2Fdata/00000000.index")
-}
 
 #[tactic(auto, using(aff_spec::proofs::Names::map_name_is))]
 fn name_of_map(alloc: Global, uuid: &str) -> Result<String, AllocError>
@@ -60,17 +39,17 @@ fn targets(alloc: Global, uuid: &str) -> Result<String, AllocError>
     )
 }
 
-/// The points of an index of full chunks.
-fn points(alloc: Global, count: u64) -> Result<Vec<Point>, AllocError>
-    requires { count ≤ 1024 }
-    ensures { IfOk result (λ points. points.items ≡ full_points count) }
+/// One append.
+fn append<F: Folder>(folder: &mut F, name: &str, bytes: &[u8]) -> Result<(), Fault>
+    ensures ok { OnOk result (IsTrue F.tells → F.held folder.new ≡ applied (F.held folder.old) ((name.now, bytes.now) ∷ [])) }
+    ensures part { OnErr result (IsTrue F.tells → Reaches (F.held folder.old) ((name.now, bytes.now) ∷ []) (F.held folder.new)) }
+    ensures cause { HasCause (F.folder_faults folder.old) (F.folder_faults folder.new) (IsErrOf result Fault.Folder) }
+    ensures fault { IfErr result (λ e. (e ≡ Fault.Folder) ⊎ (e ≡ Fault.Memory)) }
 {
-    (0..count)
-        .map(|k| Point {
-            at: 32_768 * k,
-            len: 32_768,
-        })
-        .collect(alloc)
+    match folder.append(name, bytes) {
+        Ok(_) => Ok(()),
+        Err(error) => Err(fault_of_folder(error)),
+    }
 }
 
 /// An append that is still to be made.
@@ -99,19 +78,6 @@ impl Pending {
     {
         append(folder, self.name.as_str(), &self.bytes)
     }
-}
-
-/// The index of a bevvy of so many chunks.
-pub fn index(alloc: Global, uuid: &str, count: u64) -> Result<Pending, Fault>
-    requires uuid { is_uuid uuid.now ≡ true }
-    requires few { count ≤ 1024 }
-    ensures ok { IfOk result (λ a. a ≡ (index_name (stream_urn uuid.now) 0, flat_map point_bytes (full_points count))) }
-    ensures fault { IfErr result (λ e. e ≡ Fault.Memory) }
-{
-    let name = name_of_index(alloc, uuid)?;
-    let points = points(alloc, count)?;
-    let bytes = write_points(alloc, &points)?;
-    Ok(Pending { name, bytes })
 }
 
 /// The map with these entries.

@@ -3,4 +3,7 @@ use Rattle.aff_model.specs.declared.extent.Extent.{Extent}
 use Rattle.aff_top.proofs.acquire.longest.Given as goal
 
 abbrev pub invariant-loop-extent : goal.invariant-loop-extent
-invariant-loop-extent l = (k : ℕ) (d : Extent) → k < l.extent-index → (get_or l.extents k d).len ≤ l.most
+invariant-loop-extent l = record {
+  most : (k : ℕ) (d : Extent) → k < l.extent-index → (get_or l.extents k d).len ≤ l.most;
+  short : l.most ≤ 16777216;
+}

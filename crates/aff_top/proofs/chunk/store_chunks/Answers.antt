@@ -1,21 +1,37 @@
-use Rattle.std.proofs.Common.{◌<◌, ◌∷◌, [], length, ap, subst, ◌∙◌, arith}
-use Rattle.aff_model.specs.Plan.{chunk_count}
-use Rattle.aff_spec.specs.Appends.{applied, Reaches}
-use Rattle.aff_spec.specs.Chunks.{chunk_at}
-use Rattle.aff_spec.proofs.Appending.{applied-one_more, Reaches-one_of}
+use Rattle.std.proofs.Common.{◌<◌, length, arith}
+use Rattle.aff_model.specs.declared.publication.Place.TheVariants.{Zero}
+use Rattle.aff_top.proofs.Storings.{WritesMore-next, Reaches-next, room-next}
 use Rattle.aff_top.proofs.chunk.store_chunks.Goals as goal
 
-pub loop-place-preserved : goal.loop-place-preserved
-loop-place-preserved g c = record {
-  held = λ t.
-      applied-one_more c.args.bevvy.now (chunk_at c.args.bytes.now) (g.F.Folder.held c.args.folder.now) (g.F.Folder.held c.loop-place.folder) (g.F.Folder.held c.append.new.folder) c.loop-place.place
-      (c.loop-place.invariant.held t) (c.in_default.ensures.ok t ∙ ap (λ v. applied (g.F.Folder.held c.loop-place.folder) ((c.args.bevvy.now, v) ∷ [])) c.pad.ensures);
-  later = omega (arith, c.loop-place.invariant.later, c.append.ensures.cause.later);
-}
+pub store_chunk-requires-clause-chunks : goal.store_chunk-requires-clause-chunks
+store_chunk-requires-clause-chunks g c κs within =
+    let before = c.requires.written.0 in
+    let written = c.requires.written.1 in
+    let few = c.requires.written.2 in
+    (room-next g.F.Folder.tells c.args.stream.now.stream c.args.bytes.now c.args.places.now c.loop-number.number Zero (omega arith) before
+    (g.F.Folder.held c.args.folder.now) (g.F.Folder.held c.loop-number.folder) c.loop-number.stream (c.loop-number.invariant.written before written few) few c.requires.few).0
+
+pub store_chunk-requires-clause-bevvies : goal.store_chunk-requires-clause-bevvies
+store_chunk-requires-clause-bevvies g c κs within =
+    let before = c.requires.written.0 in
+    let written = c.requires.written.1 in
+    let few = c.requires.written.2 in
+    (room-next g.F.Folder.tells c.args.stream.now.stream c.args.bytes.now c.args.places.now c.loop-number.number Zero (omega arith) before
+    (g.F.Folder.held c.args.folder.now) (g.F.Folder.held c.loop-number.folder) c.loop-number.stream (c.loop-number.invariant.written before written few) few c.requires.few).1
 
 pub returns-in-Err-clause-part : goal.returns-in-Err-clause-part
-returns-in-Err-clause-part g c = λ t.
-    let below : c.loop-place.place < chunk_count (length c.args.bytes.now) = omega (arith, c.chunks_in_len-count.ensures) in
-    Reaches-one_of c.args.bevvy.now (chunk_at c.args.bytes.now) (g.F.Folder.held c.args.folder.now) (g.F.Folder.held c.loop-place.folder) (g.F.Folder.held c.append.new.folder) c.loop-place.place
-    (chunk_count (length c.args.bytes.now)) below (c.loop-place.invariant.held t)
-    (subst (λ v. Reaches (g.F.Folder.held c.loop-place.folder) ((c.args.bevvy.now, v) ∷ []) (g.F.Folder.held c.append.new.folder)) c.pad.ensures (c.in-Err.ensures.part t))
+returns-in-Err-clause-part g c = λ before written few.
+    Reaches-next g.F.Folder.tells c.args.stream.now.stream c.args.bytes.now c.args.places.now c.loop-number.number Zero (omega arith) before
+    (g.F.Folder.held c.args.folder.now) (g.F.Folder.held c.loop-number.folder) c.loop-number.stream (c.loop-number.invariant.written before written few)
+    (g.F.Folder.held c.store_chunk.new.folder) c.in-Err.ensures.part
+
+pub loop-number-preserved : goal.loop-number-preserved
+loop-number-preserved g c =
+    let below : c.loop-number.number < length c.args.places.now = omega arith in
+    record {
+      written = λ before written few.
+          WritesMore-next g.F.Folder.tells c.args.stream.now.stream c.args.bytes.now c.args.places.now c.loop-number.number Zero below before
+          (g.F.Folder.held c.args.folder.now) (g.F.Folder.held c.loop-number.folder) c.loop-number.stream (c.loop-number.invariant.written before written few)
+          (g.F.Folder.held c.store_chunk.new.folder) c.store_chunk.new.stream c.in_default.ensures.ok;
+      later = omega (arith, c.loop-number.invariant.later, c.store_chunk.ensures.cause.later);
+    }

@@ -1,12 +1,12 @@
-use Rattle.std.proofs.Common.{◌≡◌, ◌≤◌, map}
-use Rattle.std.specs.Prelude.{IsTrue}
-use Rattle.std.specs.List.{range_with_len}
-use Rattle.aff_spec.specs.Appends.{applied, appends_to}
-use Rattle.aff_spec.specs.Chunks.{chunk_at}
+use Rattle.std.proofs.Common.{◌≤◌, ℕ, List, length, take}
+use Rattle.aff_spec.specs.Chunks.{stored_chunks}
+use Rattle.aff_top.specs.Output.{HasWritten}
+use Rattle.aff_top.proofs.Storings.{WritesMore}
 use Rattle.aff_top.proofs.chunk.store_chunks.Given as goal
 
-abbrev pub invariant-loop-place : goal.invariant-loop-place
-invariant-loop-place g l = record {
-  held : IsTrue g.F.Folder.tells → g.F.Folder.held l.folder ≡ applied (g.F.Folder.held l.initial.folder) (appends_to l.bevvy (map (chunk_at l.bytes) (range_with_len 0 l.place)));
+abbrev pub invariant-loop-number : goal.invariant-loop-number
+invariant-loop-number g l = record {
+  written : (before : List (List ℕ)) → HasWritten l.initial.stream.stream before l.initial.stream → length before ≤ 33554432
+      → WritesMore g.F.Folder.tells l.initial.stream.stream before (stored_chunks l.bytes (take l.number l.places)) (g.F.Folder.held l.initial.folder) (g.F.Folder.held l.folder) l.stream;
   later : g.F.Folder.folder_faults l.initial.folder ≤ g.F.Folder.folder_faults l.folder;
 }

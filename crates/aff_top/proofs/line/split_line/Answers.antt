@@ -1,6 +1,6 @@
 use Rattle.std.proofs.Common.{◌≡◌, ◌==◌, length, ap, ◌∙◌}
 use Rattle.std.specs.Prelude.{position, Some, None}
-use Rattle.aff_top.proofs.Places.{place_at, parts_at, line_at}
+use Rattle.aff_top.proofs.FirstPlaces.{place_at, parts_at, line_at}
 use Rattle.aff_top.proofs.line.split_line.Goals as goal
 
 pub returns-in-Some-clause-first : goal.returns-in-Some-clause-first

@@ -1,20 +1,12 @@
-use Rattle.std.proofs.Common.{◌≡◌, sym, ap, subst, ◌∙◌, arith, inl, inr}
+use Rattle.std.proofs.Common.{◌≡◌, sym, subst, ◌∙◌, inl, inr}
 use Rattle.std.specs.Prelude.{IfSome}
 use Rattle.std.specs.List.{AllByRecursion}
-use Rattle.aff_model.specs.Plan.{IsPlan, chunks_of}
+use Rattle.aff_model.specs.Plan.{IsPlan}
 use Rattle.aff_model.specs.declared.plan.PlanFault.TheVariants.{Memory}
 use Rattle.aff_top.specs.declared.fault.Fault.TheVariants.{Text}
 use Rattle.aff_spec.specs.PlanText.{FitsExtent, plan_text}
 use Rattle.aff_top.proofs.PlanTexts.{same_plan, plan_fits}
 use Rattle.aff_top.proofs.plan.plan_of.Goals as goal
-
-pub returns-else-count_chunks-le-MAX_CHUNKS-clause-refused : goal.returns-else-count_chunks-le-MAX_CHUNKS-clause-refused
-returns-else-count_chunks-le-MAX_CHUNKS-clause-refused c = λ _ extents h.
-    let text : c.args.text.now ≡ plan_text c.in-Some.extents.items = subst (λ o. IfSome o (λ v. c.args.text.now ≡ plan_text v.items)) c.in-Some.is c.in_ok-extents.ensures.some in
-    let fit : AllByRecursion FitsExtent c.in-Some.extents.items = subst (λ o. IfSome o (λ v. AllByRecursion FitsExtent v.items)) c.in-Some.is c.in_ok-extents.ensures.fit in
-    let same = same_plan extents c.in-Some.extents.items (plan_fits c.args.size extents c.ranges.size.fits h.is_plan) fit (sym h.is_text ∙ text) in
-    let count : chunks_of c.extents.result.now ≡ chunks_of extents = ap chunks_of (c.extents.ensures.extents ∙ c.in-Ok.ensures.plan.1 ∙ sym same) in
-    omega (arith, c.if-count_chunks-le-MAX_CHUNKS.false, c.count_chunks.ensures, count, h.few_chunks)
 
 pub returns-in-Err : goal.returns-in-Err
 returns-in-Err c = record {

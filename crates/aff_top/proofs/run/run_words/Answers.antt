@@ -3,14 +3,6 @@ use Rattle.std.specs.String.{string_bytes}
 use Rattle.aff_top.proofs.States.{state_by}
 use Rattle.aff_top.proofs.run.run_words.Goals as goal
 
-pub returns-clause-devices : goal.returns-clause-devices
-returns-clause-devices g c = λ ten.
-    let told = c.acquire_words-outcome.ensures in
-    elim (c.tell-status.ensures.devices ten) [
-      | inl refused ↦ inl ((told.refused refused).0, (told.refused refused).1, told.early (inr (inr (inr refused))))
-      | inr reading ↦ inr ((λ k d below. (told.reading k d below).rose reading), told.late (inl reading))
-    ]
-
 pub returns-clause-state : goal.returns-clause-state
 returns-clause-state g c =
     let told = c.acquire_words-outcome.ensures in
