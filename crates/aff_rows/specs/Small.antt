@@ -24,6 +24,10 @@ extent at len = record { at = at; len = len; priority = 0 }
 abbrev pub publication : ℕ → List ℕ → List Place → Published
 publication number bad places = record { extent = number; claimant = 0; swept = false; bad = bad; places = places }
 
+-- one chunk, stored
+abbrev pub one_stored : List Published
+one_stored = publication 0 [] (Chunk 0 ∷ []) ∷ []
+
 -- sectors 01, bad, 03 in one extent
 abbrev pub one_bad : List Published
 one_bad = publication 0 (1 ∷ []) (Chunk 0 ∷ []) ∷ []

@@ -6,20 +6,19 @@ ghost use Rattle.aff_model.specs.declared.cell.Cell.TheVariants.{Byte, Unreadabl
 ghost use Rattle.aff_model.specs.Cells.{cell_of};
 ghost use Rattle.aff_fields.specs.Entry.{entries_of};
 ghost use Rattle.aff_fields.specs.Point.{point_at};
-ghost use Rattle.aff_spec.specs.Acquired.{stored_history};
 ghost use Rattle.aff_spec.specs.Names.{bevvy_name, map_name, stream_urn, image_urn};
 ghost use Rattle.aff_spec.specs.Report.{place_runs, sector_runs, Zeros, Nothings, Chunks};
 ghost use Rattle.aff_spec.specs.Runs.{history_spot, lookup};
 ghost use Rattle.aff_spec.specs.Symbols.{fill_of};
 ghost use Rattle.aff_spec.specs.Volumes.{volume_cell, volume_byte, volume_of};
-ghost use Rattle.aff_rows.specs.Small.{counting, extent, one_bad, bad_chunk, two_zeros, urgent_first, uuid, four_bytes};
+ghost use Rattle.aff_rows.specs.Small.{counting, extent, one_stored, one_bad, bad_chunk, two_zeros, urgent_first, uuid, four_bytes};
 
 /// One sector: its chunk is chunk 0, its bytes are places 0 to 511 of the stream, and nothing else is there.
 pub fn one_sector()
-    ensures first { history_spot (extent 0 512 ∷ []) (stored_history (extent 0 512 ∷ [])) 0 ≡ Some (0, 0) }
-    ensures last { history_spot (extent 0 512 ∷ []) (stored_history (extent 0 512 ∷ [])) 511 ≡ Some (0, 511) }
-    ensures behind { history_spot (extent 0 512 ∷ []) (stored_history (extent 0 512 ∷ [])) 512 ≡ None }
-    ensures cell { cell_of counting (extent 0 512 ∷ []) (stored_history (extent 0 512 ∷ [])) 511 ≡ Byte 512 }
+    ensures first { history_spot (extent 0 512 ∷ []) one_stored 0 ≡ Some (0, 0) }
+    ensures last { history_spot (extent 0 512 ∷ []) one_stored 511 ≡ Some (0, 511) }
+    ensures behind { history_spot (extent 0 512 ∷ []) one_stored 512 ≡ None }
+    ensures cell { cell_of counting (extent 0 512 ∷ []) one_stored 511 ≡ Byte 512 }
     ensures index { point_at (0 ∷ 0 ∷ 0 ∷ 0 ∷ 0 ∷ 0 ∷ 0 ∷ 0 ∷ 0 ∷ 128 ∷ 0 ∷ 0 ∷ []) 0 ≡ record { at = 0; len = 32768 } }
     ensures map { entries_of (0 ∷ 0 ∷ 0 ∷ 0 ∷ 0 ∷ 0 ∷ 0 ∷ 0 ∷ 0 ∷ 2 ∷ 0 ∷ 0 ∷ 0 ∷ 0 ∷ 0 ∷ 0 ∷ 0 ∷ 0 ∷ 0 ∷ 0 ∷ 0 ∷ 0 ∷ 0 ∷ 0 ∷ 0 ∷ 0 ∷ 0 ∷ 0 ∷ [])
         ≡ record { at = 0; len = 512; target_at = 0; target = 0 } ∷ [] }

@@ -1,4 +1,6 @@
 //! A run over one card in memory.
+ghost use Rattle.std.specs.Prelude.{◌≡◌, IfOk, length};
+
 use aff_memory::{FixedDevice, MemoryFolder, MemorySink, MemorySource};
 use aff_model::Untold;
 use aff_outside::{Device, OpenGate, read_segment};
@@ -27,6 +29,13 @@ pub const NONE: Faults = Faults {
     folder: 0,
 };
 
+/// So many bytes, each 7.
+pub fn filled(alloc: Global, count: usize) -> Result<Vec<u8>, AllocError>
+    ensures { IfOk result (λ bytes. length bytes.items ≡ count) }
+{
+    vec![in alloc; 7u8; count]
+}
+
 /// What a run left.
 #[derive(Drop)]
 pub struct Ran {
@@ -42,11 +51,21 @@ pub fn run(
     card: FixedDevice,
     faults: Faults,
 ) -> Result<Ran, AllocError> {
+    run_over(alloc, text, Box::new(alloc, card)?, faults)
+}
+
+/// Runs over one device.
+pub fn run_over(
+    alloc: Global,
+    text: &[u8],
+    device: Box<dyn Device>,
+    faults: Faults,
+) -> Result<Ran, AllocError> {
     let mut devices: Vec<Box<dyn Device>> = Vec::new(alloc);
-    devices.push(Box::new(alloc, card)?)?;
+    devices.push(device)?;
     let mut source = MemorySource::new(text.to_vec(alloc)?, vec![in alloc; faults.source]?);
     let mut sink = MemorySink::new(alloc, vec![in alloc; faults.sink]?);
-    let folder = MemoryFolder::new(alloc, vec![in alloc; faults.folder]?);
+    let folder = MemoryFolder::new(alloc, vec![in alloc; faults.folder]?, Vec::new(alloc));
     let End { status, folder, .. } = run_words::<Untold, _, _, _, _>(
         alloc,
         &WORDS,
@@ -65,15 +84,27 @@ pub fn run(
     })
 }
 
-/// A card of so many sectors, sector `k` of bytes `k + 1`.
-pub fn card(alloc: Global, sectors: u8) -> Result<FixedDevice, AllocError> {
+/// The bytes of so many sectors, sector `k` of bytes `k + 1`.
+pub fn sectors(alloc: Global, count: u8) -> Result<Vec<u8>, AllocError> {
     let mut bytes = Vec::new(alloc);
-    for sector in 0..sectors {
+    for sector in 0..count {
         for _ in 0..512 {
             bytes.push(sector.wrapping_add(1))?;
         }
     }
-    Ok(FixedDevice::new(bytes, Vec::new(alloc)))
+    Ok(bytes)
+}
+
+/// A card of so many sectors, sector `k` of bytes `k + 1`.
+pub fn card(alloc: Global, count: u8) -> Result<FixedDevice, AllocError> {
+    Ok(FixedDevice::new(sectors(alloc, count)?, Vec::new(alloc)))
+}
+
+/// Whether the report has this line.
+pub fn has_line(written: &[u8], line: &str) -> bool {
+    written
+        .split(|b| *b == b'\n')
+        .any(|found| found == line.as_bytes())
 }
 
 /// Whether the folder has no segment of this name.

@@ -4,6 +4,12 @@
 
 pub mod cases;
 #[cfg(test)]
+mod cost;
+#[cfg(test)]
 mod fixture;
 #[cfg(test)]
+mod hashes;
+#[cfg(test)]
 mod tests;
+#[cfg(test)]
+mod unreadable;
