@@ -68,14 +68,12 @@ fn an_unreadable_sector_is_hashed_as_it_is_printed(rt: HostRuntime) -> Result<()
 #[test]
 fn the_order_of_the_plan_changes_no_hash(rt: HostRuntime) -> Result<(), Fail> {
     let alloc = rt.alloc();
+    let whole = "md5 0a04f7d87dcc0aa10db6cd925c811b97";
     let text = b"extent 512 512 0\nextent 0 512 0\n".as_slice();
-    let ran = run(alloc, text, card(alloc, 2)?, NONE)?;
-    let whole = run(alloc, b"extent 0 1024 0\n", card(alloc, 2)?, NONE)?;
-    assert_eq!(rt; ran.status, 0);
-    assert_eq!(rt; whole.status, 0);
-    let last = ran.written.len() - 128;
-    let end = whole.written.len() - 128;
-    assert_eq!(rt; &ran.written[last..], &whole.written[end..]);
+    let late = run(alloc, text, card(alloc, 2)?, NONE)?;
+    assert!(rt; has_line(&late.written, whole));
+    let early = run(alloc, b"extent 0 1024 0\n", card(alloc, 2)?, NONE)?;
+    assert!(rt; has_line(&early.written, whole));
     Ok(())
 }
 
