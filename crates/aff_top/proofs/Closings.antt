@@ -1,10 +1,9 @@
 -- A stream's writer and its block hashes append together what the stream's definition says.
-use Rattle.std.proofs.Common.{◌≡◌, ℕ, ◌+◌, ◌-◌, ◌*◌, ◌/◌, ◌%◌, ◌<◌, ◌≤◌, ◌==◌, Bool, true, false, cond, List, [], ◌∷◌, ◌++◌, length, drop, map, refl, sym, ap, ◌∙◌, arith, append-nil, length-append, length-drop, eq-eqb, ne_eqb, eqb-true}
+use Rattle.std.proofs.Common.{◌≡◌, ℕ, ◌+◌, ◌*◌, ◌/◌, ◌%◌, ◌==◌, Bool, true, false, cond, List, [], ◌∷◌, ◌++◌, length, drop, map, refl, sym, ap, ◌∙◌, arith, length-append, length-drop, eq-eqb, ne_eqb, eqb-true}
 use Rattle.std.specs.Prelude.{◌≢◌}
 use Rattle.std.proofs.lemmas.List.{drop-append-le, drop_all, length-map, map-append}
 use Rattle.aff_bevvy.specs.Written.{stored_chunk, last_index}
-use Rattle.aff_blockhash.specs.Pending.{Pending, pushed, push_appends, finish_appends}
-use Rattle.aff_spec.specs.Appends.{Append}
+use Rattle.aff_blockhash.specs.Pending.{pushed, push_appends, finish_appends}
 use Rattle.aff_spec.specs.Bevvies.{Sums, sums_of, index_append, hash_appends, closing_appends, chunk_appends, ending, pending_sums}
 use Rattle.aff_spec.specs.Names.{bevvy_name}
 

@@ -1,5 +1,5 @@
 -- When all chunks of a plan are written, the image that the rest of the appends makes can be read.
-use Rattle.std.proofs.Common.{◌≡◌, ℕ, ◌+◌, ◌/◌, ◌≤◌, Bool, List, length, take, take_all, refl, sym, ap, subst, ◌∙◌, arith}
+use Rattle.std.proofs.Common.{◌≡◌, ℕ, ◌/◌, ◌≤◌, Bool, List, length, take, take_all, refl, sym, ap, subst, ◌∙◌, arith}
 use Rattle.std.specs.Prelude.{Option, Some, All, IsTrue}
 use Rattle.std.specs.FinMap.{empty}
 use Rattle.aff_model.specs.declared.extent.Extent.{Extent}
@@ -9,13 +9,13 @@ use Rattle.aff_model.specs.History.{Published}
 use Rattle.aff_model.specs.Plan.{IsPlan}
 use Rattle.aff_fields.specs.declared.entry.Entry.{Entry}
 use Rattle.aff_fields.specs.Entry.{FitsEntry}
-use Rattle.aff_spec.specs.Acquired.{end_appends, volume_appends}
+use Rattle.aff_spec.specs.Acquired.{end_appends}
 use Rattle.aff_spec.specs.Appends.{applied}
 use Rattle.aff_spec.specs.Bevvies.{Sums, bevvy_count, pending_sums}
 use Rattle.aff_spec.specs.Names.{stream_urn}
-use Rattle.aff_spec.specs.Reads.{Taken, AreTaken, history_from, all_pieces, Takes}
+use Rattle.aff_spec.specs.Reads.{AreTaken, all_pieces, Takes}
 use Rattle.aff_spec.specs.Runs.{AreGreatestRuns, history_spot}
-use Rattle.aff_spec.specs.Walks.{AreImageRuns, IsStored, IsWalkable}
+use Rattle.aff_spec.specs.Walks.{IsStored, IsWalkable}
 use Rattle.aff_spec.proofs.Chunks.{AreChunks-all_pieces}
 use Rattle.aff_spec.proofs.Outcomes.{made_pieces}
 use Rattle.aff_spec.proofs.Plans.{plan_chunks}

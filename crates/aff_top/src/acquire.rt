@@ -21,97 +21,21 @@ ghost use Rattle.aff_spec.specs.Walks.{IsWalkable};
 ghost use Rattle.aff_spec.specs.Words.{is_uuid};
 ghost use Rattle.aff_top.specs.Output.{HasWritten};
 
+use crate::buffers::Buffers;
 use crate::extents::acquire_extents;
 use crate::fault::{Fault, fault_of_folder};
 use crate::pieces::Stored;
-use crate::segments::{idx, map};
+use crate::segments::append_map;
 use crate::stream::Stream;
-use aff_device::reserve_bad;
 use aff_fields::Entry;
 use aff_hash::Digests;
 use aff_linear::hash_image;
 use aff_map::entries_of;
-use aff_model::{CHUNK, Extent, Plan, SECTOR};
+use aff_model::Plan;
 use aff_outside::{Device, Folder};
 use aff_report::{digest_lines, report};
-use std::alloc::{AllocError, Global};
+use std::alloc::Global;
 use std::sync::Arc;
-
-/// A buffer of zeros.
-fn zeros(alloc: Global, count: usize) -> Result<Vec<u8>, AllocError>
-    ensures { IfOk result (λ bytes. length bytes.items ≡ count) }
-{
-    vec![in alloc; 0u8; count]
-}
-
-/// Room for the bytes of the longest extent of a plan, for one chunk, and for the numbers of the sectors that
-/// cannot be read.
-#[derive(Drop)]
-struct Buffers {
-    extent: Vec<u8>,
-    chunk: Vec<u8>,
-    bad: Vec<u32>,
-}
-
-impl Buffers {
-    fn new(alloc: Global, extents: &[Extent]) -> Result<Buffers, Fault>
-        requires { All (λ e. e.len ≤ 16777216) extents.now }
-        ensures long { IfOk result (λ b. All (λ e. e.len ≤ length b.extent.items) extents.now) }
-        ensures room { IfOk result (λ b. length b.chunk.items ≡ 32768) }
-        ensures sectors { IfOk result (λ b. length b.extent.items / 512 ≤ vec_capacity b.bad) }
-        ensures fault { IfErr result (λ e. e ≡ Fault.Memory) }
-    {
-        let len = longest(extents);
-        let extent = zeros(alloc, len as usize)?;
-        let chunk = zeros(alloc, CHUNK as usize)?;
-        let mut bad = Vec::new(alloc);
-        reserve_bad(&mut bad, (len / SECTOR) as u32)?;
-        Ok(Buffers { extent, chunk, bad })
-    }
-}
-
-/// The length of the longest extent.
-fn longest(extents: &[Extent]) -> u64
-    requires { All (λ e. e.len ≤ 16777216) extents.now }
-    ensures most { All (λ e. e.len ≤ result) extents.now }
-    ensures short { result ≤ 16777216 }
-{
-    let mut most = 0;
-    for extent in extents {
-        most = most.max(extent.len);
-    }
-    most
-}
-
-/// Appends the map with these entries, and the list of its targets.
-fn append_map<F: Folder>(
-    alloc: Global,
-    folder: &mut F,
-    uuid: &str,
-    entries: &[Entry],
-) -> Result<(), Fault>
-    requires { is_uuid uuid.now ≡ true }
-    ensures ok { OnOk result (IsTrue F.tells → F.held folder.new ≡ applied (F.held folder.old) (map_appends uuid.now entries.now)) }
-    ensures part { OnErr result (IsTrue F.tells → Reaches (F.held folder.old) (map_appends uuid.now entries.now) (F.held folder.new)) }
-    ensures cause { HasCause (F.folder_faults folder.old) (F.folder_faults folder.new) (IsErrOf result Fault.Folder) }
-    ensures fault { IfErr result (λ e. (e ≡ Fault.Folder) ⊎ (e ≡ Fault.Memory)) }
-{
-    let map = match map(alloc, uuid, entries) {
-        Ok(map) => map,
-        Err(fault) => return Err(fault),
-    };
-    let idx = match idx(alloc, uuid) {
-        Ok(idx) => idx,
-        Err(fault) => return Err(fault),
-    };
-    if let Err(fault) = map.make(folder) {
-        return Err(fault);
-    }
-    match idx.make(folder) {
-        Ok(()) => Ok(()),
-        Err(fault) => Err(fault),
-    }
-}
 
 /// Reads the extents of a plan, appends their stored chunks to the stream, and answers their pieces.
 fn store_extents<F: Folder>(

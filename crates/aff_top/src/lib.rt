@@ -2,6 +2,7 @@
 #![tactic(auto)]
 
 mod acquire;
+mod buffers;
 mod chunk;
 mod device;
 mod extents;

@@ -4,6 +4,7 @@ ghost use Rattle.std.specs.String.{string_bytes};
 ghost use Rattle.std.specs.List.{flat_map};
 ghost use Rattle.aff_model.specs.Causes.{HasCause};
 ghost use Rattle.aff_fields.specs.Entry.{entry_bytes};
+ghost use Rattle.aff_spec.specs.Acquired.{map_appends};
 ghost use Rattle.aff_spec.specs.Appends.{applied, Reaches};
 ghost use Rattle.aff_spec.specs.Names.{map_name, idx_name, stream_urn, image_urn};
 ghost use Rattle.aff_spec.specs.Volumes.{targets_text};
@@ -81,7 +82,7 @@ impl Pending {
 }
 
 /// The map with these entries.
-pub fn map(alloc: Global, uuid: &str, entries: &[Entry]) -> Result<Pending, Fault>
+fn map(alloc: Global, uuid: &str, entries: &[Entry]) -> Result<Pending, Fault>
     requires { is_uuid uuid.now ≡ true }
     ensures ok { IfOk result (λ a. a ≡ (map_name (image_urn uuid.now), flat_map entry_bytes entries.now)) }
     ensures fault { IfErr result (λ e. e ≡ Fault.Memory) }
@@ -92,7 +93,7 @@ pub fn map(alloc: Global, uuid: &str, entries: &[Entry]) -> Result<Pending, Faul
 }
 
 /// The list of targets.
-pub fn idx(alloc: Global, uuid: &str) -> Result<Pending, Fault>
+fn idx(alloc: Global, uuid: &str) -> Result<Pending, Fault>
     requires { is_uuid uuid.now ≡ true }
     ensures ok { IfOk result (λ a. a ≡ (idx_name (image_urn uuid.now), targets_text (stream_urn uuid.now))) }
     ensures fault { IfErr result (λ e. e ≡ Fault.Memory) }
@@ -100,4 +101,34 @@ pub fn idx(alloc: Global, uuid: &str) -> Result<Pending, Fault>
     let name = name_of_targets(alloc, uuid)?;
     let bytes = targets(alloc, uuid)?.into_bytes();
     Ok(Pending { name, bytes })
+}
+
+/// Appends the map with these entries, and the list of its targets.
+pub fn append_map<F: Folder>(
+    alloc: Global,
+    folder: &mut F,
+    uuid: &str,
+    entries: &[Entry],
+) -> Result<(), Fault>
+    requires { is_uuid uuid.now ≡ true }
+    ensures ok { OnOk result (IsTrue F.tells → F.held folder.new ≡ applied (F.held folder.old) (map_appends uuid.now entries.now)) }
+    ensures part { OnErr result (IsTrue F.tells → Reaches (F.held folder.old) (map_appends uuid.now entries.now) (F.held folder.new)) }
+    ensures cause { HasCause (F.folder_faults folder.old) (F.folder_faults folder.new) (IsErrOf result Fault.Folder) }
+    ensures fault { IfErr result (λ e. (e ≡ Fault.Folder) ⊎ (e ≡ Fault.Memory)) }
+{
+    let map = match map(alloc, uuid, entries) {
+        Ok(map) => map,
+        Err(fault) => return Err(fault),
+    };
+    let idx = match idx(alloc, uuid) {
+        Ok(idx) => idx,
+        Err(fault) => return Err(fault),
+    };
+    if let Err(fault) = map.make(folder) {
+        return Err(fault);
+    }
+    match idx.make(folder) {
+        Ok(()) => Ok(()),
+        Err(fault) => Err(fault),
+    }
 }

@@ -1,5 +1,5 @@
 use Rattle.aff_top.proofs.Making.{first_reached, second_reached}
-use Rattle.aff_top.proofs.acquire.append_map.Goals as goal
+use Rattle.aff_top.proofs.segments.append_map.Goals as goal
 
 pub returns-in-Err-make-clause-part : goal.returns-in-Err-make-clause-part
 returns-in-Err-make-clause-part g c = λ t.

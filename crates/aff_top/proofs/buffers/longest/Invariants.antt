@@ -1,6 +1,6 @@
 use Rattle.std.proofs.Common.{ℕ, ◌<◌, ◌≤◌, get_or}
 use Rattle.aff_model.specs.declared.extent.Extent.{Extent}
-use Rattle.aff_top.proofs.acquire.longest.Given as goal
+use Rattle.aff_top.proofs.buffers.longest.Given as goal
 
 abbrev pub invariant-loop-extent : goal.invariant-loop-extent
 invariant-loop-extent l = record {
