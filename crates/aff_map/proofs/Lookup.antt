@@ -1,36 +1,22 @@
 -- Lookup in a list of entries and one more.
-use Rattle.std.proofs.Common.{◌≡◌, ℕ, ◌+◌, ◌<◌, ◌≤◌, Bool, true, false, cond, List, [], ◌∷◌, ◌++◌, get_or, refl, ap, ◌∙◌, arith}
+use Rattle.std.proofs.Common.{◌≡◌, ℕ, ◌+◌, ◌<◌, ◌≤◌, Bool, true, false, cond, List, [], ◌∷◌, ◌++◌, get_or, ap, ◌∙◌, arith}
 use Rattle.std.specs.Prelude.{Some, None, find}
 use Rattle.std.specs.Option.{option_map}
 use Rattle.std.specs.List.{All}
-use Rattle.std.proofs.lemmas.Bool.Decides.{nat_tests}
 use Rattle.std.proofs.lemmas.List.Elements.{All-head, All-tail}
 use Rattle.aff_fields.specs.declared.entry.Entry.{Entry}
 use Rattle.aff_spec.specs.Runs.{covers, lookup, spot_in}
+use Rattle.aff_spec.proofs.Lookups.{find_nothing, covers_before, covers_after, covers_within}
 
 find-push_miss : {X : Type 0} (p : X → Bool) (xs : List X) (y : X) → p y ≡ false → find p (xs ++ y ∷ []) ≡ find p xs
 find-push_miss p [] y fails = ap (λ b. cond b (Some y) None) fails
 find-push_miss p (x ∷ xs) y fails = ap (cond (p x) (Some x)) (find-push_miss p xs y fails)
-
-pub find_none : {X : Type 0} (p : X → Bool) (xs : List X) → All (λ x. p x ≡ false) xs → find p xs ≡ None
-find_none p [] none = refl
-find_none p (x ∷ xs) none =
-    ap (λ b. cond b (Some x) (find p xs)) (All-head (λ x. p x ≡ false) x xs none) ∙ find_none p xs (All-tail (λ x. p x ≡ false) x xs none)
 
 find-push_hit : {X : Type 0} (p : X → Bool) (xs : List X) (y : X) → All (λ x. p x ≡ false) xs → p y ≡ true → find p (xs ++ y ∷ []) ≡ Some y
 find-push_hit p [] y none passes = ap (λ b. cond b (Some y) None) passes
 find-push_hit p (x ∷ xs) y none passes =
     ap (λ b. cond b (Some x) (find p (xs ++ y ∷ []))) (All-head (λ x. p x ≡ false) x xs none)
     ∙ find-push_hit p xs y (All-tail (λ x. p x ≡ false) x xs none) passes
-
-pub covers_before : (i : ℕ) (e : Entry) → i < e.at → covers i e ≡ false
-covers_before i e h = grind (arith, nat_tests)
-
-pub covers_after : (i : ℕ) (e : Entry) → e.at + e.len ≤ i → covers i e ≡ false
-covers_after i e h = grind (arith, nat_tests)
-
-pub covers_within : (i : ℕ) (e : Entry) → e.at ≤ i → i < e.at + e.len → covers i e ≡ true
-covers_within i e h k = grind (arith, nat_tests)
 
 -- no entry reaches the place
 pub none_covers : (i n : ℕ) (entries : List Entry) → All (λ e. e.at + e.len ≤ n) entries → n ≤ i → All (λ e. covers i e ≡ false) entries
@@ -40,7 +26,7 @@ none_covers i n entries ends h k d below =
     covers_after i e (omega arith)
 
 pub lookup-past : (i n : ℕ) (entries : List Entry) → All (λ e. e.at + e.len ≤ n) entries → n ≤ i → lookup entries i ≡ None
-lookup-past i n entries ends h = ap (option_map (spot_in i)) (find_none (covers i) entries (none_covers i n entries ends h))
+lookup-past i n entries ends h = ap (option_map (spot_in i)) (find_nothing (covers i) entries (none_covers i n entries ends h))
 
 pub lookup-push_before : (i : ℕ) (entries : List Entry) (e : Entry) → i < e.at → lookup (entries ++ e ∷ []) i ≡ lookup entries i
 lookup-push_before i entries e h = ap (option_map (spot_in i)) (find-push_miss (covers i) entries e (covers_before i e h))
