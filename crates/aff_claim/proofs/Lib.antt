@@ -1,0 +1,11 @@
+pub mod WordLaws
+pub mod ListLaws
+pub mod Kept
+pub mod PassSteps
+pub mod BookSteps
+pub mod PublishSteps
+pub mod Opening
+pub mod Remembering
+pub mod Seated
+pub mod Urgency
+pub mod Later

@@ -1,0 +1,7 @@
+pub mod Words
+pub mod Views
+pub mod Steps
+pub mod Rule
+pub mod Ranking
+pub mod Values
+pub mod Next

@@ -1,0 +1,25 @@
+use Rattle.std.proofs.Common.{refl, ap}
+use Rattle.sha2.specs.Sha256.{add_state, compress, rounds}
+use Rattle.aff_lanes.proofs.sha256_hasher.add_block.Goals as goal
+
+pub returns : goal.returns
+unfolding compress rounds
+returns c = λ b has.
+    let h = c.args.state.now in
+    let s1 = c.four_steps-v.ensures b h has refl in
+    let s2 = c.four_steps-v-2.ensures b h has s1 in
+    let s3 = c.four_steps-v-3.ensures b h has s2 in
+    let s4 = c.four_steps-v-4.ensures b h has s3 in
+    let s5 = c.four_steps-v-5.ensures b h has s4 in
+    let s6 = c.four_steps-v-6.ensures b h has s5 in
+    let s7 = c.four_steps-v-7.ensures b h has s6 in
+    let s8 = c.four_steps-v-8.ensures b h has s7 in
+    let s9 = c.four_steps-v-9.ensures b h has s8 in
+    let s10 = c.four_steps-v-10.ensures b h has s9 in
+    let s11 = c.four_steps-v-11.ensures b h has s10 in
+    let s12 = c.four_steps-v-12.ensures b h has s11 in
+    let s13 = c.four_steps-v-13.ensures b h has s12 in
+    let s14 = c.four_steps-v-14.ensures b h has s13 in
+    let s15 = c.four_steps-v-15.ensures b h has s14 in
+    let s16 = c.four_steps-v-16.ensures b h has s15 in
+    ap (add_state h) s16

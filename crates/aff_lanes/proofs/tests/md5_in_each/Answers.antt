@@ -1,0 +1,9 @@
+use Rattle.std.proofs.Common.{length, refl}
+use Rattle.aff_lanes.proofs.Messages.{eight_of_one_length, four_of_one_length}
+use Rattle.aff_lanes.proofs.tests.md5_in_each.Goals as goal
+
+pub md5_of_four-requires : goal.md5_of_four-requires
+md5_of_four-requires c = four_of_one_length (length c.args.message.now) _ _ _ _ refl refl refl refl
+
+pub md5_of_eight-requires : goal.md5_of_eight-requires
+md5_of_eight-requires c = eight_of_one_length (length c.args.message.now) _ _ _ _ _ _ _ _ refl refl refl refl refl refl refl refl

@@ -1,0 +1,15 @@
+pub mod Runs
+pub mod Hex
+pub mod Scalars
+pub mod Quotes
+pub mod Steps
+pub mod Lookups
+pub mod Alike
+pub mod Statements
+pub mod Complete
+pub mod Sound
+pub mod Declared
+pub mod Refusals
+pub mod Lexed
+pub mod Again
+pub mod Readings

@@ -1,0 +1,17 @@
+pub mod Codes
+pub mod Characters
+pub mod Blanks
+pub mod Quoted
+pub mod Tokens
+pub mod Triples
+pub mod Objects
+pub mod Prefixes
+pub mod Names
+pub mod Productions
+pub mod Refusals
+pub mod Reading
+pub mod Machine
+pub mod Outcomes
+pub mod Views
+pub mod Written
+pub mod Laws
