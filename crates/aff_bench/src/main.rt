@@ -1,19 +1,48 @@
 //! What the digests of a run cost alone: reads standard input once, takes the digests that a run takes of
 //! such a device (of each chunk that is not all zeros, and of the whole), and writes those of the whole.
-//! Nothing is stored. `bench` compares a run with it.
+//! Nothing is stored. `bench` compares a run with it. With the word `lanes` or `scalar` it takes the chunks' digests
+//! alone, in lanes or in the scalar code of `md5`, `sha1` and `sha2`, so that `bench` compares the two.
 #![tactic(auto)]
 
-ghost use Rattle.std.specs.Prelude.{◌≡◌, ◌<◌, IfOk, length};
+ghost use Rattle.std.specs.Prelude.{◌≡◌, ◌<◌, All, IfOk, length};
+ghost use Rattle.aff_model.specs.Plan.{chunk_count};
 
-use aff_hash::{Linear, chunk_sums};
+use aff_hash::{Linear, sums_of_chosen};
 use aff_model::{CHUNK, MAX_EXTENT, Memory};
 use aff_outside::{InputSource, OutputSink, Sink, Source};
 use aff_report::digest_lines;
+use md5::{Digest as Md5Hasher, Md5};
+use sha1::Sha1;
+use sha2::{Digest as Sha2Hasher, Sha256};
 use std::alloc::{AllocError, Global};
+use std::env;
 use std::process::ExitCode;
 
 /// The most readings: a device of 2^44 bytes takes so many of the longest extent.
 const READINGS: u64 = 1_048_576;
+
+const CHUNK_BYTES: usize = CHUNK as usize;
+
+/// Which digests are taken.
+#[derive(Clone, Copy, Debug, PartialEq, Eq)]
+enum Mode {
+    /// Those that a run takes.
+    Run,
+    /// Those of chunks, in lanes.
+    Lanes,
+    /// Those of chunks, in scalar code.
+    Scalar,
+}
+
+fn mode_of(word: &str) -> Mode {
+    if word == "lanes" {
+        Mode::Lanes
+    } else if word == "scalar" {
+        Mode::Scalar
+    } else {
+        Mode::Run
+    }
+}
 
 /// A buffer of zeros.
 fn zeros(alloc: Global, count: usize) -> Result<Vec<u8>, AllocError>
@@ -22,52 +51,111 @@ fn zeros(alloc: Global, count: usize) -> Result<Vec<u8>, AllocError>
     vec![in alloc; 0u8; count]
 }
 
-/// Takes the digests of the chunks that a run would store, and gives a byte of each, mixed.
-fn sum_chunks(bytes: &[u8]) -> u8 {
-    let mut mix = 0;
-    for chunk in bytes.chunks(CHUNK as usize) {
-        if chunk.iter().any(|byte| *byte != 0) {
-            let sums = chunk_sums(chunk);
-            mix ^= sums.md5[0] ^ sums.sha1[0] ^ sums.sha256[0];
+/// A chunk of some bytes.
+fn chunk(bytes: &[u8], number: usize) -> &[u8]
+    requires { number < chunk_count (length bytes.now) }
+{
+    let rest = &bytes[CHUNK_BYTES * number..];
+    &rest[..rest.len().min(CHUNK_BYTES)]
+}
+
+/// The numbers of the chunks that a run would store.
+fn stored(alloc: Global, bytes: &[u8]) -> Result<Vec<usize>, AllocError>
+    ensures { IfOk result (λ numbers. All (λ j. j < chunk_count (length bytes.now)) numbers.items) }
+{
+    let mut numbers = Vec::new(alloc);
+    for number in 0..bytes.len().div_ceil(CHUNK_BYTES) {
+        if chunk(bytes, number).iter().any(|byte| *byte != 0) {
+            numbers.push(number)?;
         }
+    }
+    Ok(numbers)
+}
+
+/// A byte of each digest of the chosen chunks, mixed; the digests are taken in lanes.
+fn mix_in_lanes(alloc: Global, bytes: &[u8], chosen: &[usize]) -> Result<u8, Memory>
+    requires { All (λ j. j < chunk_count (length bytes.now)) chosen.now }
+{
+    let mut mix = 0;
+    for sums in sums_of_chosen(alloc, bytes, chosen)? {
+        mix ^= sums.md5[0] ^ sums.sha1[0] ^ sums.sha256[0];
+    }
+    Ok(mix)
+}
+
+/// The same in scalar code, of whole chunks.
+fn mix_in_scalar_code(bytes: &[u8], chosen: &[usize]) -> u8
+    requires { All (λ j. j < chunk_count (length bytes.now)) chosen.now }
+{
+    let mut mix = 0;
+    for number in chosen {
+        let chunk = chunk(bytes, *number);
+        mix ^= Md5::digest(chunk)[0] ^ Sha1::digest(chunk)[0] ^ Sha256::digest(chunk)[0];
     }
     mix
 }
 
+/// Takes the digests of some bytes, and gives the mixed bytes of their chunks' digests.
+fn sum_bytes(alloc: Global, mode: Mode, bytes: &[u8], linear: &mut Linear) -> Result<u8, Memory> {
+    let Ok(chosen) = stored(alloc, bytes) else {
+        return Err(Memory);
+    };
+    match mode {
+        Mode::Run => {
+            linear.update(bytes);
+            mix_in_lanes(alloc, bytes, &chosen)
+        }
+        Mode::Lanes => mix_in_lanes(alloc, bytes, &chosen),
+        Mode::Scalar => Ok(mix_in_scalar_code(bytes, &chosen)),
+    }
+}
+
 /// Takes the digests of what a source has left, and gives the mixed bytes of its chunks' digests.
-fn sum_all<S: Source>(source: &mut S, buffer: &mut [u8], linear: &mut Linear) -> u8
+fn sum_all<S: Source>(
+    alloc: Global,
+    mode: Mode,
+    source: &mut S,
+    buffer: &mut [u8],
+    linear: &mut Linear,
+) -> Result<u8, Memory>
     requires { 0 < length buffer.old }
 {
     let mut mix = 0;
     for _ in 0..READINGS {
         match source.read(buffer) {
-            Ok(0) => return mix,
-            Ok(count) => {
-                linear.update(&buffer[..count]);
-                mix ^= sum_chunks(&buffer[..count]);
-            }
-            Err(_) => return mix,
+            Ok(0) => return Ok(mix),
+            Ok(count) => mix ^= sum_bytes(alloc, mode, &buffer[..count], linear)?,
+            Err(_) => return Ok(mix),
         }
     }
-    mix
+    Ok(mix)
 }
 
-fn run(rt: HostRuntime) -> Result<(), Memory> {
+fn run(rt: HostRuntime, mode: Mode) -> Result<(), Memory> {
     let alloc = rt.alloc();
     let Ok(mut buffer) = zeros(alloc, MAX_EXTENT as usize) else {
         return Err(Memory);
     };
     let mut linear = Linear::new();
-    let mix = sum_all(&mut InputSource::new(rt), &mut buffer, &mut linear);
-    let lines = digest_lines(alloc, &linear.finish())?;
+    let mut source = InputSource::new(rt);
+    let mix = sum_all(alloc, mode, &mut source, &mut buffer, &mut linear)?;
     let mut sink = OutputSink::new(rt);
-    let _ = sink.write(lines.as_bytes());
+    if mode == Mode::Run {
+        let lines = digest_lines(alloc, &linear.finish())?;
+        let _ = sink.write(lines.as_bytes());
+    }
     let _ = sink.write(&[b'a' + mix % 26, b'\n']);
     Ok(())
 }
 
 fn main(rt: HostRuntime) -> ExitCode {
-    match run(rt) {
+    let mut mode = Mode::Run;
+    if let Ok(mut words) = env::args(&rt)
+        && let Some(word) = words.nth(1)
+    {
+        mode = mode_of(word.as_str());
+    }
+    match run(rt, mode) {
         Ok(()) => ExitCode::from(0),
         Err(_) => ExitCode::from(7),
     }

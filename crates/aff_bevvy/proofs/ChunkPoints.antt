@@ -14,7 +14,7 @@ use Rattle.aff_bevvy.specs.declared.error.StreamError.{StreamError}
 use Rattle.aff_bevvy.specs.declared.error.StreamError.TheVariants.{NoSegment, Ragged, PointPastEnd, PointLength, Failed, Memory}
 use Rattle.aff_bevvy.specs.Checks.{IsPointFault, IsFirstPointFault, IsFirstChunkFault, IsChunkFaultFrom, IsOfPoints}
 use Rattle.aff_bevvy.specs.Faults.{IsChunkFault}
-use Rattle.aff_bevvy.specs.Streams.{IsPoint, IsChunk, chunk_len, chunk_point, chunk_room}
+use Rattle.aff_bevvy.specs.Streams.{IsPoint, IsChunk, IsStoredLength, chunk_point, chunk_room}
 
 -- the points so far are as they have to be, and the next one is
 pub one_point_more : (points : List Point) (size len c k : ℕ) (d : Point) → k < length points → ((j : ℕ) → j < k → (p : Point) → slice_get points j ≡ Some p → IsPoint size len (c + j) p)
@@ -118,8 +118,8 @@ module _ (held : Held) (stream : List ℕ) (size b : ℕ) (before : (c : ℕ) �
       subst (λ j. (j < chunk_count size) × (chunk_room held stream j < (chunk_point held stream j).at + (chunk_point held stream j).len) × ((k : ℕ) → k < j → IsChunk held stream size k))
       (sym first.fault.0) (first.high, first.fault.1, all_before (PointPastEnd c) first)
   first_of_chunks (PointLength c l) first =
-      subst (λ j. (j < chunk_count size) × ((chunk_point held stream j).at + (chunk_point held stream j).len ≤ chunk_room held stream j) × (l ≡ (chunk_point held stream j).len) × (l ≢ chunk_len size j) × ((k : ℕ) → k < j → IsChunk held stream size k))
-      (sym first.fault.0) (first.high, first.fault.2, first.fault.1, (λ e. first.fault.3 (sym first.fault.1 ∙ e)), all_before (PointLength c l) first)
+      subst (λ j. (j < chunk_count size) × ((chunk_point held stream j).at + (chunk_point held stream j).len ≤ chunk_room held stream j) × (l ≡ (chunk_point held stream j).len) × (¬ (IsStoredLength size j l)) × ((k : ℕ) → k < j → IsChunk held stream size k))
+      (sym first.fault.0) (first.high, first.fault.2, first.fault.1, (λ is. first.fault.3 (subst (IsStoredLength size first.chunk) first.fault.1 is)), all_before (PointLength c l) first)
   first_of_chunks (NoSegment k) first = absurd first
   first_of_chunks (Ragged k) first = absurd first
   first_of_chunks Failed first = tt

@@ -1,12 +1,12 @@
 -- What single checks of a stream's segments and points say.
-use Rattle.std.specs.Prelude.{◌≡◌, ◌≢◌, ⊤, ℕ, ◌+◌, ◌<◌, ◌≤◌, List, Some, slice_get}
+use Rattle.std.specs.Prelude.{◌≡◌, ⊤, ℕ, ◌+◌, ◌<◌, ◌≤◌, List, Some, slice_get}
 use Rattle.aff_model.specs.Held.{Held}
 use Rattle.aff_model.specs.Plan.{chunk_count}
 use Rattle.aff_fields.specs.declared.point.Point.{Point}
 use Rattle.aff_bevvy.specs.declared.error.StreamError.{StreamError}
 use Rattle.aff_bevvy.specs.declared.error.StreamError.TheVariants.{NoSegment, Ragged, PointPastEnd, PointLength, Failed, Memory}
 use Rattle.aff_bevvy.specs.Segments.{Lengths}
-use Rattle.aff_bevvy.specs.Streams.{IsPoint, IsChunk, chunk_len, chunk_point, chunk_room}
+use Rattle.aff_bevvy.specs.Streams.{IsPoint, IsChunk, IsStoredLength, chunk_point, chunk_room}
 use Rattle.aff_bevvy.specs.Faults.{LacksSegment, IsRagged}
 
 -- a refusal for bevvy b
@@ -30,7 +30,7 @@ IsOfSegments (PointLength c l) = ⊥
 -- a refusal for chunk c with this point, whose bevvy has len bytes
 abbrev pub IsPointFault : ℕ → ℕ → ℕ → Point → StreamError → Type 0
 IsPointFault size len c p (PointPastEnd k) = (k ≡ c) × (len < p.at + p.len)
-IsPointFault size len c p (PointLength k l) = (k ≡ c) × (l ≡ p.len) × (p.at + p.len ≤ len) × (p.len ≢ chunk_len size c)
+IsPointFault size len c p (PointLength k l) = (k ≡ c) × (l ≡ p.len) × (p.at + p.len ≤ len) × (¬ (IsStoredLength size c p.len))
 IsPointFault size len c p (NoSegment b) = ⊥
 IsPointFault size len c p (Ragged b) = ⊥
 IsPointFault size len c p Failed = ⊥

@@ -8,7 +8,7 @@ use Rattle.aff_spec.specs.Names.{bevvy_name, index_name}
 use Rattle.aff_bevvy.specs.declared.error.StreamError.{StreamError}
 use Rattle.aff_bevvy.specs.declared.error.StreamError.TheVariants.{NoSegment, Ragged, PointPastEnd, PointLength, Failed, Memory}
 use Rattle.aff_bevvy.specs.Segments.{Lengths, IsBevvy, AreBevvies, held_length}
-use Rattle.aff_bevvy.specs.Streams.{IsChunk, chunk_len, chunk_point, chunk_room}
+use Rattle.aff_bevvy.specs.Streams.{IsChunk, IsStoredLength, chunk_point, chunk_room}
 
 -- bevvy b or its index is not there
 abbrev pub LacksSegment : Lengths → List ℕ → ℕ → Type 0
@@ -35,7 +35,7 @@ IsChunkFault held stream size (PointPastEnd c) =
     × ((k : ℕ) → k < c → IsChunk held stream size k)
 IsChunkFault held stream size (PointLength c l) =
     (c < chunk_count size) × ((chunk_point held stream c).at + (chunk_point held stream c).len ≤ chunk_room held stream c)
-    × (l ≡ (chunk_point held stream c).len) × (l ≢ chunk_len size c)
+    × (l ≡ (chunk_point held stream c).len) × (¬ (IsStoredLength size c l))
     × ((k : ℕ) → k < c → IsChunk held stream size k)
 IsChunkFault held stream size (NoSegment b) = ⊤
 IsChunkFault held stream size (Ragged b) = ⊤

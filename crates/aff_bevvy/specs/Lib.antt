@@ -1,4 +1,5 @@
 pub mod Checks
+pub mod Errors
 pub mod Faults
 pub mod Segments
 pub mod Streams

@@ -1,5 +1,6 @@
 -- Streams that can be read from a folder.
-use Rattle.std.specs.Prelude.{◌≡◌, ℕ, ◌+◌, ◌-◌, ◌*◌, ◌/◌, ◌%◌, ◌<◌, ◌≤◌, min, List, length}
+use Rattle.std.specs.Prelude.{◌≡◌, ℕ, ◌+◌, ◌-◌, ◌*◌, ◌/◌, ◌%◌, ◌<◌, ◌≤◌, ◌⊎◌, min, List, length}
+use Rattle.aff_model.specs.declared.limits.TheConstants.{CHUNK}
 use Rattle.aff_model.specs.Held.{Held, bytes_of}
 use Rattle.aff_model.specs.Plan.{chunk_count}
 use Rattle.aff_fields.specs.declared.point.Point.{Point}
@@ -12,14 +13,18 @@ pub record Sized : Type 0 where
   pub stream : List ℕ
   pub size : ℕ
 
--- how many bytes chunk c of a stream of so many has: 32,768, or what is left
+-- how many bytes of chunk c a stream of so many has: 32,768, or what is left
 abbrev pub chunk_len : ℕ → ℕ → ℕ
-chunk_len size c = min 32768 (size - 32768 * c)
+chunk_len size c = min CHUNK (size - CHUNK * c)
 
--- a point of chunk c names a part of its bevvy, which has len bytes, and a part as long as the chunk
+-- a stored chunk may have this length: 32,768, since chunks are stored padded, or without padding the rest of the stream
+abbrev pub IsStoredLength : ℕ → ℕ → ℕ → Type 0
+IsStoredLength size c len = (len ≡ CHUNK) ⊎ (len ≡ chunk_len size c)
+
+-- a point of chunk c names a part of its bevvy, which has len bytes, and a part as long as the stored chunk
 pub record IsPoint (size len c : ℕ) (p : Point) : Type 0 where
   pub inside : p.at + p.len ≤ len
-  pub whole : p.len ≡ chunk_len size c
+  pub whole : IsStoredLength size c p.len
 
 -- the point of chunk c, and the length of its bevvy
 abbrev pub chunk_point : Held → List ℕ → ℕ → Point

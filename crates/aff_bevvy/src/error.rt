@@ -1,4 +1,8 @@
 //! Why a stream is not read.
+ghost use Rattle.std.specs.Prelude.{◌≡◌};
+ghost use Rattle.aff_bevvy.specs.Errors.{of_folder};
+
+use aff_outside::FolderError;
 
 /// Why a stream is not read. A number is that of a bevvy or, in 64 bits, that of a chunk, both from 0.
 #[derive(Clone, Copy, Debug, PartialEq, Eq)]
@@ -15,4 +19,14 @@ pub enum StreamError {
     Failed,
     /// Memory was refused.
     Memory,
+}
+
+/// What a folder's answer is for the stream.
+pub fn stream_error(error: FolderError) -> StreamError
+    ensures { result ≡ of_folder error }
+{
+    match error {
+        FolderError::Failed => StreamError::Failed,
+        FolderError::Memory => StreamError::Memory,
+    }
 }

@@ -16,6 +16,7 @@ ghost use Rattle.aff_bevvy.specs.Streams.{IsChunk, IsPoint, chunk_len as length_
 
 use crate::StreamError;
 use crate::bevvies::chunks_in;
+use crate::error::stream_error;
 use aff_fields::{FieldsError, Point, read_points};
 use aff_model::{BEVVY, CHUNK, Memory};
 use aff_names::{Urn, segment_name};
@@ -29,7 +30,7 @@ pub fn count_chunks(size: u64) -> u64
     size.div_ceil(CHUNK)
 }
 
-/// How many bytes a chunk has in a stream of so many.
+/// How many bytes of a chunk a stream of so many has.
 pub fn chunk_len(size: u64, chunk: u64) -> u32
     requires { chunk ≤ 536870912 }
     ensures { result ≡ length_of_chunk size chunk }
@@ -47,7 +48,7 @@ fn check_point(point: &Point, size: u64, len: u64, chunk: u64) -> Result<(), Str
     if end > len as u128 {
         return Err(StreamError::PointPastEnd(chunk));
     }
-    if point.len != chunk_len(size, chunk) {
+    if u64::from(point.len) != CHUNK && point.len != chunk_len(size, chunk) {
         return Err(StreamError::PointLength(chunk, point.len));
     }
     Ok(())
@@ -130,8 +131,7 @@ fn check_index<F: Folder>(
     let count = chunks_in(count_chunks(size), bevvy);
     let points = match read_index(alloc, folder, stream, bevvy, count) {
         Ok(points) => points,
-        Err(FolderError::Failed) => return Err(StreamError::Failed),
-        Err(FolderError::Memory) => return Err(StreamError::Memory),
+        Err(error) => return Err(stream_error(error)),
     };
     match check_points(&points, size, len, BEVVY * bevvy as u64) {
         Ok(()) => Ok(()),

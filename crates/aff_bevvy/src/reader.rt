@@ -11,8 +11,8 @@ ghost use Rattle.aff_bevvy.specs.Streams.{IsStream, chunk_len, chunk_point};
 
 use crate::StreamError;
 use crate::bevvies::bevvy_lengths;
+use crate::error::stream_error;
 use crate::points::{check_chunks, count_chunks};
-use crate::segment::copied;
 use aff_fields::{Point, read_point};
 use aff_model::{BEVVY, CHUNK, Memory};
 use aff_names::{Urn, segment_name};
@@ -42,8 +42,8 @@ impl Model for StreamReader {
 impl StreamReader {
     /// Checks that a folder with these segments has the stream, of `size` bytes: bevvy by bevvy whether it and
     /// its index are there (`NoSegment`) and the index has a point for each chunk of the bevvy (`Ragged`), then
-    /// chunk by chunk whether its point lies in the bevvy (`PointPastEnd`) and is as long as the chunk
-    /// (`PointLength`). The first fault is answered. What the folder holds stays, whatever the answer.
+    /// chunk by chunk whether its point lies in the bevvy (`PointPastEnd`) and is as long as the stored chunk
+    /// (`PointLength`): 32,768 bytes or, without padding, the rest of the stream. The first fault is answered. What the folder holds stays, whatever the answer.
     pub fn open<F: Folder>(
         alloc: Global,
         folder: &mut F,
@@ -68,7 +68,7 @@ impl StreamReader {
         if let Err(fault) = check_chunks(alloc, folder, stream, size, &lens) {
             return Err(fault);
         }
-        match copied(alloc, stream) {
+        match stream.try_clone(alloc) {
             Ok(stream) => Ok(StreamReader {
                 alloc,
                 stream,
@@ -95,8 +95,7 @@ impl StreamReader {
     {
         match self.read_parts(folder, at, out) {
             Ok(()) => Ok(()),
-            Err(FolderError::Failed) => Err(StreamError::Failed),
-            Err(FolderError::Memory) => Err(StreamError::Memory),
+            Err(error) => Err(stream_error(error)),
         }
     }
 

@@ -1,4 +1,4 @@
-//! A stream's URN, and appends to its numbered segments.
+//! Appends to the numbered segments of a stream.
 ghost use Rattle.std.specs.Prelude.{◌≡◌, ◌<◌, ◌++◌, [], ◌∷◌, IfOk, OnOk, OnErr, IsErrOf, IsTrue};
 ghost use Rattle.aff_model.specs.Causes.{HasCause};
 ghost use Rattle.aff_outside.specs.declared.folder.FolderError.TheVariants.{Failed};
@@ -9,13 +9,6 @@ use aff_model::Memory;
 use aff_names::{Urn, segment_name};
 use aff_outside::{Folder, FolderError};
 use std::alloc::Global;
-
-/// Copies a URN.
-pub fn copied(alloc: Global, stream: &Urn) -> Result<Urn, Memory>
-    ensures { IfOk result (λ copy. copy ≡ stream.now) }
-{
-    Urn::read(alloc, stream.text()).map_err(|_| Memory)
-}
 
 /// Appends to the segment of a stream with this number and suffix.
 pub fn append<F: Folder>(
@@ -36,8 +29,5 @@ pub fn append<F: Folder>(
         Ok(name) => name,
         Err(Memory) => return Err(FolderError::Memory),
     };
-    match folder.append(name.as_str(), bytes) {
-        Ok(receipt) => Ok(receipt),
-        Err(fault) => Err(fault),
-    }
+    folder.append(name.as_str(), bytes)
 }

@@ -36,7 +36,7 @@ fn append_chunks(
 {
     for k in 0..count {
         let chunk = filled(alloc, (k % 251) as u8, 32_768)?;
-        match writer.append_chunk(alloc, folder, &chunk) {
+        match writer.append_chunk(folder, &chunk) {
             Ok(stored) => {
                 if stored.chunk != k {
                     return Err("another number")?;
@@ -59,8 +59,10 @@ fn listed(alloc: Global, folder: &mut Shelf, name: &str) -> Result<u64, Fail> {
     Err("no such segment")?
 }
 
-/// How a stream of two chunks is refused whose only bevvy has these points and 65,536 bytes.
-fn refusal(alloc: Global, points: &[Point]) -> Result<Option<StreamError>, Fail> {
+/// How a stream of a size is refused whose only bevvy has these points and 65,536 bytes.
+fn refusal(alloc: Global, points: &[Point], size: u64) -> Result<Option<StreamError>, Fail>
+    requires { size ≤ 17592186044416 }
+{
     let stream = Urn::read(alloc, STREAM)?;
     let mut folder = Shelf::new(alloc);
     let bytes = filled(alloc, 7, 65_536)?;
@@ -70,7 +72,7 @@ fn refusal(alloc: Global, points: &[Point]) -> Result<Option<StreamError>, Fail>
         folder.append(INDEX, &index).map_err(|_| "no index")?;
     }
     let segments = folder.list().map_err(|_| "no list")?;
-    Ok(StreamReader::open(alloc, &mut folder, &segments, &stream, 65_536).err())
+    Ok(StreamReader::open(alloc, &mut folder, &segments, &stream, size).err())
 }
 
 #[test]
@@ -85,16 +87,30 @@ fn a_stream_is_refused_for_its_first_fault(rt: HostRuntime) -> Result<(), Fail> 
         len: 32_768,
     };
     let long = Point { at: 0, len: 32_769 };
-    let cases: [(&[Point], Option<StreamError>); 6] = [
-        (&[first, second], None),
-        (&[], Some(StreamError::NoSegment(0))),
-        (&[first], Some(StreamError::Ragged(0))),
-        (&[first, past], Some(StreamError::PointPastEnd(1))),
-        (&[long, past], Some(StreamError::PointLength(0, 32_769))),
-        (&[long, second], Some(StreamError::PointLength(0, 32_769))),
+    // A stream of 512 bytes: its chunk is stored padded, or without padding.
+    let rest = Point { at: 0, len: 512 };
+    let shorter = Point { at: 0, len: 511 };
+    let cases: [(&[Point], u64, Option<StreamError>); 9] = [
+        (&[first, second], 65_536, None),
+        (&[], 65_536, Some(StreamError::NoSegment(0))),
+        (&[first], 65_536, Some(StreamError::Ragged(0))),
+        (&[first, past], 65_536, Some(StreamError::PointPastEnd(1))),
+        (
+            &[long, past],
+            65_536,
+            Some(StreamError::PointLength(0, 32_769)),
+        ),
+        (
+            &[long, second],
+            65_536,
+            Some(StreamError::PointLength(0, 32_769)),
+        ),
+        (&[first], 512, None),
+        (&[rest], 512, None),
+        (&[shorter], 512, Some(StreamError::PointLength(0, 511))),
     ];
-    for (points, expected) in cases {
-        assert_eq!(rt; refusal(rt.alloc(), points)?, expected);
+    for (points, size, expected) in cases {
+        assert_eq!(rt; refusal(rt.alloc(), points, size.min(65_536))?, expected);
     }
     Ok(())
 }
@@ -107,7 +123,7 @@ fn a_bevvy_is_closed_behind_its_last_chunk(rt: HostRuntime) -> Result<(), Fail> 
     let mut writer = StreamWriter::new(alloc, &stream).map_err(|_| "no writer")?;
     append_chunks(alloc, &mut writer, &mut folder, 1_025)?;
     assert_eq!(rt; listed(alloc, &mut folder, INDEX)?, 12_288);
-    match writer.finish(alloc, &mut folder) {
+    match writer.finish(&mut folder) {
         Ok(count) => assert_eq!(rt; count, 1_025),
         Err(_) => return Err("not finished")?,
     }

@@ -23,6 +23,7 @@ pub struct Stored<R: Drop> {
 /// what it was to append may stand in the folder, so no other call is to follow.
 #[derive(Drop)]
 pub struct StreamWriter {
+    alloc: Global,
     stream: Urn,
     count: u64,
 }
@@ -43,8 +44,12 @@ impl StreamWriter {
     pub fn new(alloc: Global, stream: &Urn) -> Result<StreamWriter, Memory>
         ensures { IfOk result (λ writer. writer ≡ record { stream = stream.now; count = 0 }) }
     {
-        match segment::copied(alloc, stream) {
-            Ok(stream) => Ok(StreamWriter { stream, count: 0 }),
+        match stream.try_clone(alloc) {
+            Ok(stream) => Ok(StreamWriter {
+                alloc,
+                stream,
+                count: 0,
+            }),
             Err(Memory) => Err(Memory),
         }
     }
@@ -60,7 +65,6 @@ impl StreamWriter {
     /// index.
     pub fn append_chunk<F: Folder>(
         &mut self,
-        alloc: Global,
         folder: &mut F,
         bytes: &[u8],
     ) -> Result<Stored<F::Receipt>, FolderError>
@@ -76,11 +80,11 @@ impl StreamWriter {
     {
         let chunk = self.count;
         let bevvy = (chunk / BEVVY) as u32;
-        let receipt = match segment::append(alloc, folder, &self.stream, bevvy, "", bytes) {
+        let receipt = match segment::append(self.alloc, folder, &self.stream, bevvy, "", bytes) {
             Ok(receipt) => receipt,
             Err(fault) => return Err(fault),
         };
-        if let Err(fault) = close_full(alloc, folder, &self.stream, chunk) {
+        if let Err(fault) = close_full(self.alloc, folder, &self.stream, chunk) {
             return Err(fault);
         }
         self.count = chunk + 1;
@@ -89,7 +93,7 @@ impl StreamWriter {
 
     /// Ends the stream: appends the index of its last bevvy, where that is not full and has a chunk. Answers
     /// the number of chunks.
-    pub fn finish<F: Folder>(&mut self, alloc: Global, folder: &mut F) -> Result<u64, FolderError>
+    pub fn finish<F: Folder>(&mut self, folder: &mut F) -> Result<u64, FolderError>
         ensures count { IfOk result (λ count. count ≡ self.old.count) }
         ensures same { self.new ≡ self.old }
         ensures ok { OnOk result (IsTrue F.tells → F.held folder.new ≡ applied (F.held folder.old) (last_index self.old.stream self.old.count)) }
@@ -101,7 +105,7 @@ impl StreamWriter {
             return Ok(self.count);
         }
         let bevvy = (self.count / BEVVY) as u32;
-        match index::append(alloc, folder, &self.stream, bevvy, rest) {
+        match index::append(self.alloc, folder, &self.stream, bevvy, rest) {
             Ok(()) => Ok(self.count),
             Err(fault) => Err(fault),
         }

@@ -18,6 +18,7 @@ const BEVVY_CHUNKS: usize = BEVVY as usize;
 /// of the chunks behind them, fewer than a bevvy has. Bevvies are numbered from 0, below 100,000,000.
 #[derive(Drop)]
 pub struct BlockHashes {
+    alloc: Global,
     stream: Urn,
     bevvy: u32,
     sums: Vec<ChunkSums>,
@@ -42,8 +43,9 @@ impl BlockHashes {
         let Ok(sums) = Vec::with_capacity(alloc, BEVVY_CHUNKS) else {
             return Err(Memory);
         };
-        let stream = copied(alloc, stream)?;
+        let stream = stream.try_clone(alloc)?;
         Ok(BlockHashes {
+            alloc,
             stream,
             bevvy: 0,
             sums,
@@ -54,12 +56,7 @@ impl BlockHashes {
     /// md5, sha1, sha256. Only such a push takes memory, and only such a push can fail: `Failed` where the
     /// folder failed, `Memory` where memory was refused. After an error the digests of this bevvy are lost,
     /// and no further call is of use.
-    pub fn push<F: Folder>(
-        &mut self,
-        alloc: Global,
-        folder: &mut F,
-        sums: &ChunkSums,
-    ) -> Result<(), FolderError>
+    pub fn push<F: Folder>(&mut self, folder: &mut F, sums: &ChunkSums) -> Result<(), FolderError>
         requires { self.old.bevvy < 100000000 }
         ensures few { length self.old.sums < 1024 }
         ensures state { OnOk result (self.new ≡ pushed self.old (sums_in sums.now)) }
@@ -72,7 +69,7 @@ impl BlockHashes {
         if self.sums.len() < BEVVY_CHUNKS {
             return Ok(());
         }
-        let closed = close(alloc, folder, &self.stream, self.bevvy, &self.sums);
+        let closed = close(self.alloc, folder, &self.stream, self.bevvy, &self.sums);
         self.sums.clear();
         self.bevvy += 1;
         closed
@@ -81,7 +78,7 @@ impl BlockHashes {
     /// Appends the segments of a bevvy that is not full, if it has a chunk. It can fail only then: `Failed`
     /// where the folder failed, `Memory` where memory was refused. After an error the digests of this bevvy
     /// are lost, and no further call is of use.
-    pub fn finish<F: Folder>(&mut self, alloc: Global, folder: &mut F) -> Result<(), FolderError>
+    pub fn finish<F: Folder>(&mut self, folder: &mut F) -> Result<(), FolderError>
         ensures few { length self.old.sums < 1024 }
         ensures state { OnOk result (self.new ≡ finished self.old) }
         ensures ok { OnOk result (IsTrue F.tells → F.held folder.new ≡ applied (F.held folder.old) (finish_appends self.old)) }
@@ -92,16 +89,9 @@ impl BlockHashes {
         if self.sums.is_empty() {
             return Ok(());
         }
-        let closed = close(alloc, folder, &self.stream, self.bevvy, &self.sums);
+        let closed = close(self.alloc, folder, &self.stream, self.bevvy, &self.sums);
         self.sums.clear();
         self.bevvy += 1;
         closed
     }
-}
-
-// A copy of a URN. Its text is read again, which is refused for want of memory alone.
-fn copied(alloc: Global, urn: &Urn) -> Result<Urn, Memory>
-    ensures { IfOk result (λ copy. copy ≡ urn.now) }
-{
-    Urn::read(alloc, urn.text()).map_err(|_| Memory)
 }

@@ -23,7 +23,7 @@ fn push_chunks(
     requires { hashes.old.bevvy + count < 100000000 }
 {
     for number in 0..count {
-        hashes.push(alloc, folder, &chunk_sums(&number.to_le_bytes()))?;
+        hashes.push(folder, &chunk_sums(&number.to_le_bytes()))?;
     }
     Ok(())
 }
@@ -56,7 +56,7 @@ fn three_chunks_are_appended_at_the_end(rt: HostRuntime) -> Result<(), Fail> {
     let mut hashes = unpushed(alloc)?;
     assert!(rt; push_chunks(alloc, &mut hashes, &mut folder, 3).is_ok());
     assert_eq!(rt; folder.calls(), 0);
-    assert!(rt; hashes.finish(alloc, &mut folder).is_ok());
+    assert!(rt; hashes.finish(&mut folder).is_ok());
     assert_eq!(rt;
         listed(alloc, &mut folder)?.as_str(),
         "/00000000.blockHash.md5 48,/00000000.blockHash.sha1 60,/00000000.blockHash.sha256 96,"
@@ -70,7 +70,7 @@ fn a_full_bevvy_is_appended_by_itself(rt: HostRuntime) -> Result<(), Fail> {
     let mut folder = MemoryFolder::new(alloc, Vec::new(alloc), Vec::new(alloc));
     let mut hashes = unpushed(alloc)?;
     assert!(rt; push_chunks(alloc, &mut hashes, &mut folder, 1_024).is_ok());
-    assert!(rt; hashes.finish(alloc, &mut folder).is_ok());
+    assert!(rt; hashes.finish(&mut folder).is_ok());
     assert_eq!(rt; folder.calls(), 3);
     assert_eq!(rt;
         listed(alloc, &mut folder)?.as_str(),
@@ -85,7 +85,7 @@ fn a_failed_append_is_answered(rt: HostRuntime) -> Result<(), Fail> {
     let mut folder = MemoryFolder::new(alloc, vec![in alloc; 2]?, Vec::new(alloc));
     let mut hashes = unpushed(alloc)?;
     assert!(rt; push_chunks(alloc, &mut hashes, &mut folder, 1).is_ok());
-    assert_eq!(rt; hashes.finish(alloc, &mut folder), Err(FolderError::Failed));
+    assert_eq!(rt; hashes.finish(&mut folder), Err(FolderError::Failed));
     assert_eq!(rt;
         listed(alloc, &mut folder)?.as_str(),
         "/00000000.blockHash.md5 16,"

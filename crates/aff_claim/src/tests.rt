@@ -2,7 +2,7 @@ ghost use Rattle.std.specs.Prelude.{◌≡◌, ◌-◌, ◌<◌, ◌^◌, All, I
 ghost use Rattle.aff_order.specs.Order.{IsOrder};
 
 use crate::{BookSeat, Claims, Pass, Word};
-use aff_model::{Extent, Plan};
+use aff_model::{Extent, Plan, SECTOR};
 use aff_order::{Order, orders};
 use std::alloc::{AllocError, Global};
 use std::test::Fail;
@@ -29,7 +29,7 @@ fn plan_of(alloc: Global, priorities: &[u8]) -> Result<Plan, Fail>
             priority: *priority,
         })?;
     }
-    Ok(Plan::of(alloc, extents, 1 << 40)?)
+    Ok(Plan::of(alloc, extents, 1 << 40, SECTOR as u32)?)
 }
 
 // A plan of so many sectors of priority 0.

@@ -10,7 +10,7 @@ use Rattle.std.proofs.lemmas.Map.Keys.{IsDistinct-push, IsDistinct-from_apart}
 use Rattle.std.proofs.lemmas.Map.Views.{Contains-from_any}
 use Rattle.aff_core.specs.declared.event.Event.{Event}
 use Rattle.aff_core.specs.declared.event.Event.TheVariants.{Claim, Publish, Read, Raise, Finish}
-use Rattle.aff_core.specs.Kinds.{kind_at, kind_by}
+use Rattle.aff_model.specs.Kinds.{kind_at, kind_by}
 use Rattle.aff_core.specs.Laws.{finish_count, fronts_of, is_finish, kind_of}
 use Rattle.aff_core.specs.Steps.{CoreState, IsRun, IsStep, extents_out}
 use Rattle.aff_core.proofs.EventLists.{run-split}

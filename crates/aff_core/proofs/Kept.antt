@@ -14,7 +14,7 @@ use Rattle.aff_core.specs.Kept.{Tracks, IsKept, claim_of, place_of}
 use Rattle.aff_core.proofs.Standings.{awaited-iff, claims-published, claims-start, free, free-iff, inside-tracked, place-claimed, places-claimed, places-start}
 use Rattle.aff_core.proofs.Tracks.{tracks-complete, tracks-incomplete, tracks-more, tracks-room, tracks-start}
 
-pub kept-start : (plan : Planned) (standings : List Standing) (out : List ℕ) (room : ℕ) → IsPlan plan.size plan.extents → standings ≡ replicate (length plan.extents) Free → out ≡ [] → length plan.extents ≤ room → IsKept plan standings out room
+pub kept-start : (plan : Planned) (standings : List Standing) (out : List ℕ) (room : ℕ) → IsPlan plan.size plan.block plan.extents → standings ≡ replicate (length plan.extents) Free → out ≡ [] → length plan.extents ≤ room → IsKept plan standings out room
 kept-start plan standings out room valid p o r = record {
   plan_valid = valid;
   count = ap length p ∙ length-replicate (length plan.extents) free;

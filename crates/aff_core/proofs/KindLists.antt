@@ -13,10 +13,11 @@ use Rattle.aff_model.specs.declared.extent.Extent.{Extent}
 use Rattle.aff_model.specs.Cells.{is_bad_at}
 use Rattle.aff_model.specs.History.{Published}
 use Rattle.aff_model.specs.Index.{no_extent}
-use Rattle.aff_model.specs.Plan.{AreApart, IsExtent, IsPlan, has_place}
+use Rattle.aff_model.specs.Plan.{AreApart, has_place}
+use Rattle.aff_model.proofs.Sectors.{IsSectored, IsSectorPlan}
 use Rattle.aff_model.proofs.Find.{has_place-inside, has_place-outside}
 use Rattle.aff_core.specs.Kept.{Tracks}
-use Rattle.aff_core.specs.Kinds.{kind_by, kind_at, kinds_of}
+use Rattle.aff_model.specs.Kinds.{kind_by, kind_at, kinds_of}
 use Rattle.aff_core.specs.Steps.{extents_out}
 
 -- the extent of a number, if there is one, does not hold the place
@@ -49,7 +50,7 @@ kind_at-hit es (r ∷ history) i (suc q) p e before there of has =
 begun_by : (i : ℕ) (e : Extent) → has_place i e ≡ true → (e.at ≤ i) × (i < e.at + e.len)
 begun_by i e h = (grind (arith, nat_tests), grind (arith, nat_tests))
 
-apart_either : (size : ℕ) (es : List Extent) → IsPlan size es → (n m : ℕ) (e f : Extent) → slice_get es n ≡ Some e → slice_get es m ≡ Some f → m ≢ n → AreApart e f ⊎ AreApart f e
+apart_either : (size : ℕ) (es : List Extent) → IsSectorPlan size es → (n m : ℕ) (e f : Extent) → slice_get es n ≡ Some e → slice_get es m ≡ Some f → m ≢ n → AreApart e f ⊎ AreApart f e
 apart_either size es plan n m e f is of ne =
     let nb = slice_get_within es n e is in
     let mb = slice_get_within es m f of in
@@ -74,7 +75,7 @@ miss_by i e None h = tt
 miss_by i e (Some f) h = h f refl
 
 -- another number than that of the extent that holds the place
-pub misses-other : (size : ℕ) (es : List Extent) → IsPlan size es → (i n m : ℕ) (e : Extent) → slice_get es n ≡ Some e → has_place i e ≡ true → m ≢ n → Misses es i m
+pub misses-other : (size : ℕ) (es : List Extent) → IsSectorPlan size es → (i n m : ℕ) (e : Extent) → slice_get es n ≡ Some e → has_place i e ≡ true → m ≢ n → Misses es i m
 misses-other size es plan i n m e is has ne =
     miss_by i e (slice_get es m) (λ f of. outside_other i e f (apart_either size es plan n m e f is of ne) has)
 
@@ -111,7 +112,7 @@ pub holder : (es : List Extent) (n i : ℕ) → IsSomeAnd (slice_get es n) (λ e
 holder es n i h = holder_by es n i (slice_get es n) refl h
 
 -- it is not published
-pub kind-unpublished : (size : ℕ) (es : List Extent) (history : List Published) (places : List (Option ℕ)) (n i : ℕ) → IsPlan size es → Tracks (extents_out history) places → IsHolder es n i → slice_get places n ≡ Some None → kind_at es history i ≡ Unknown
+pub kind-unpublished : (size : ℕ) (es : List Extent) (history : List Published) (places : List (Option ℕ)) (n i : ℕ) → IsSectorPlan size es → Tracks (extents_out history) places → IsHolder es n i → slice_get places n ≡ Some None → kind_at es history i ≡ Unknown
 kind-unpublished size es history places n i plan t h free =
     kind_at-miss es history i (λ q b.
     misses-other size es plan i n (get_or (extents_out history) q 0) (get_or es n no_extent) h.there h.holds (λ same.
@@ -121,7 +122,7 @@ kind-unpublished size es history places n i plan t h free =
     cc))
 
 -- it is published
-pub kind-published : (size : ℕ) (es : List Extent) (history : List Published) (places : List (Option ℕ)) (n i q : ℕ) (p : Published) → IsPlan size es → Tracks (extents_out history) places → IsHolder es n i → slice_get places n ≡ Some (Some q) → q < length history → p ≡ get_or history q p → kind_at es history i ≡ cond (is_bad_at (get_or es n no_extent) p i) Unreadable Known
+pub kind-published : (size : ℕ) (es : List Extent) (history : List Published) (places : List (Option ℕ)) (n i q : ℕ) (p : Published) → IsSectorPlan size es → Tracks (extents_out history) places → IsHolder es n i → slice_get places n ≡ Some (Some q) → q < length history → p ≡ get_or history q p → kind_at es history i ≡ cond (is_bad_at (get_or es n no_extent) p i) Unreadable Known
 kind-published size es history places n i q p plan t h placed inside read =
     let f = t.found n q placed in
     let of : p.extent ≡ n = ap (λ (x : Published). x.extent) read ∙ sym (get_or-map (λ (x : Published). x.extent) history q p 0 inside) ∙ f.1 in
@@ -153,28 +154,28 @@ has_place-along e i j a l same h =
 has_place-sector : (e : Extent) (i j : ℕ) → e.at % 512 ≡ 0 → e.len % 512 ≡ 0 → i / 512 ≡ j / 512 → has_place i e ≡ has_place j e
 has_place-sector e i j a l same = same_bool (has_place i e) (has_place j e) (has_place-along e i j a l same) (has_place-along e j i a l (sym same))
 
-each_by : (size : ℕ) (es : List Extent) (n : ℕ) (o : Option Extent) → All (IsExtent size) es → slice_get es n ≡ o → IfSome o (IsExtent size)
+each_by : (size : ℕ) (es : List Extent) (n : ℕ) (o : Option Extent) → All (IsSectored size) es → slice_get es n ≡ o → IfSome o (IsSectored size)
 each_by size es n None each is = tt
 each_by size es n (Some e) each is =
-    let P : Extent → Type 0 = IsExtent size in
+    let P : Extent → Type 0 = IsSectored size in
     subst P (get_or_from_slice_get es n e no_extent is) (each n no_extent (slice_get_within es n e is))
 
-each_of : (size : ℕ) (es : List Extent) (n : ℕ) → All (IsExtent size) es → IfSome (slice_get es n) (IsExtent size)
+each_of : (size : ℕ) (es : List Extent) (n : ℕ) → All (IsSectored size) es → IfSome (slice_get es n) (IsSectored size)
 each_of size es n each = each_by size es n (slice_get es n) each refl
 
-kind_by-sector : (size : ℕ) (o : Option Extent) (p : Published) (i j : ℕ) (m n : Kind) → IfSome o (IsExtent size) → i / 512 ≡ j / 512 → m ≡ n → kind_by o p i m ≡ kind_by o p j n
+kind_by-sector : (size : ℕ) (o : Option Extent) (p : Published) (i j : ℕ) (m n : Kind) → IfSome o (IsSectored size) → i / 512 ≡ j / 512 → m ≡ n → kind_by o p i m ≡ kind_by o p j n
 kind_by-sector size None p i j m n h same others = others
 kind_by-sector size (Some e) p i j m n h same others =
     let holds : has_place i e ≡ has_place j e = has_place-sector e i j h.at_whole h.len_whole same in
     let bad : is_bad_at e p i ≡ is_bad_at e p j = ap (λ s. list_any (λ k. k == (s - e.at / 512)) p.bad) same in
     ap (λ b. cond b (cond (is_bad_at e p i) Unreadable Known) m) holds ∙ ap (λ b. cond (has_place j e) (cond b Unreadable Known) m) bad ∙ ap (λ k. cond (has_place j e) (cond (is_bad_at e p j) Unreadable Known) k) others
 
-pub kind_at-sector : (size : ℕ) (es : List Extent) (history : List Published) (i j : ℕ) → All (IsExtent size) es → i / 512 ≡ j / 512 → kind_at es history i ≡ kind_at es history j
+pub kind_at-sector : (size : ℕ) (es : List Extent) (history : List Published) (i j : ℕ) → All (IsSectored size) es → i / 512 ≡ j / 512 → kind_at es history i ≡ kind_at es history j
 kind_at-sector size es [] i j each same = refl
 kind_at-sector size es (p ∷ history) i j each same =
     kind_by-sector size (slice_get es p.extent) p i j (kind_at es history i) (kind_at es history j) (each_of size es p.extent each) same (kind_at-sector size es history i j each same)
 
-part_at : (size : ℕ) (es : List Extent) (history : List Published) (at done part k : ℕ) (d : Kind) → All (IsExtent size) es → part ≤ 512 - (at + done) % 512 → k < done + part → get_or (kinds_of es history at done ++ replicate part (kind_at es history (at + done))) k d ≡ kind_at es history (at + k)
+part_at : (size : ℕ) (es : List Extent) (history : List Published) (at done part k : ℕ) (d : Kind) → All (IsSectored size) es → part ≤ 512 - (at + done) % 512 → k < done + part → get_or (kinds_of es history at done ++ replicate part (kind_at es history (at + done))) k d ≡ kind_at es history (at + k)
 part_at size es history at done part k d each short b =
     let f : ℕ → Kind = kind_at es history in
     let front = kinds_of es history at done in
@@ -190,7 +191,7 @@ part_at size es history at done part k d each short b =
     ]
 
 -- one part more of a range, which lies in one sector
-pub kinds_of-more : (size : ℕ) (es : List Extent) (history : List Published) (at done part : ℕ) → All (IsExtent size) es → part ≤ 512 - (at + done) % 512 → kinds_of es history at (done + part) ≡ kinds_of es history at done ++ replicate part (kind_at es history (at + done))
+pub kinds_of-more : (size : ℕ) (es : List Extent) (history : List Published) (at done part : ℕ) → All (IsSectored size) es → part ≤ 512 - (at + done) % 512 → kinds_of es history at (done + part) ≡ kinds_of es history at done ++ replicate part (kind_at es history (at + done))
 kinds_of-more size es history at done part each short =
     let f : ℕ → Kind = kind_at es history in
     let front = kinds_of es history at done in

@@ -5,7 +5,7 @@ use Rattle.std.proofs.lemmas.List.{append_assoc, replicate-append-replicate, tak
 use Rattle.aff_model.specs.declared.cell.Kind.{Kind}
 use Rattle.aff_model.specs.declared.cell.Kind.TheVariants.{Unknown}
 use Rattle.aff_model.specs.declared.cell.Run.{Run}
-use Rattle.aff_core.specs.Kinds.{AreGreatest, spread}
+use Rattle.aff_model.specs.Kinds.{AreGreatest, spread}
 
 abbrev pub nothing : Run
 nothing = record { len = 0; kind = Unknown }

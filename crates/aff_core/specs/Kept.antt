@@ -24,7 +24,7 @@ place_of (Published place) = Some place
 
 -- standings are as many as the extents, and there is room for a publication of each
 pub record IsKept (plan : Planned) (standings : List Standing) (out : List ℕ) (room : ℕ) : Type 0 where
-  pub plan_valid : IsPlan plan.size plan.extents
+  pub plan_valid : IsPlan plan.size plan.block plan.extents
   pub count : length standings ≡ length plan.extents
   pub tracks : Tracks out (map place_of standings)
   pub room_left : length plan.extents ≤ room

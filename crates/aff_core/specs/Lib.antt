@@ -1,4 +1,3 @@
 pub mod Kept
-pub mod Kinds
 pub mod Laws
 pub mod Steps

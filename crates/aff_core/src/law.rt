@@ -3,7 +3,7 @@ ghost use Rattle.std.specs.Prelude.{◌≡◌, ℕ, List, ◌∷◌, ◌++◌, n
 ghost use Rattle.std.specs.List.{IsDistinct};
 ghost use Rattle.std.specs.List.Sorted.{IsNonDecreasing};
 ghost use Rattle.aff_core.specs.declared.event.Event.{Event};
-ghost use Rattle.aff_core.specs.Kinds.{kind_at};
+ghost use Rattle.aff_model.specs.Kinds.{kind_at};
 ghost use Rattle.aff_core.specs.Laws.{finish_count, fronts_of, kind_of};
 ghost use Rattle.aff_core.specs.Steps.{CoreState, IsRun, extents_out, start};
 ghost use Rattle.aff_model.specs.declared.extent.Extent.{Extent};

@@ -51,7 +51,7 @@ mod tests {
         };
         let mut extents = Vec::new(alloc);
         extents.push(extent).map_err(AllocError::from)?;
-        Plan::of(alloc, extents, size)
+        Plan::of(alloc, extents, size, 512)
     }
 
     fn publication(alloc: Global, bad: &[u32]) -> Result<Publication, AllocError> {

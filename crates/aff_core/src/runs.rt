@@ -1,6 +1,6 @@
 //! Runs of cells of one kind.
 ghost use Rattle.std.specs.Prelude.{◌≡◌, ℕ, ◌+◌, ◌<◌, ◌^◌, ◌++◌, ◌↔◌, IsTrue, OnOk, length, replicate};
-ghost use Rattle.aff_core.specs.Kinds.{AreGreatest, spread};
+ghost use Rattle.aff_model.specs.Kinds.{AreGreatest, spread};
 
 use aff_model::{Kind, Run};
 use std::alloc::AllocError;

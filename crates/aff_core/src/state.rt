@@ -2,7 +2,7 @@
 ghost use Rattle.std.specs.Prelude.{◌≡◌, ◌≢◌, ℕ, ◌+◌, ◌<◌, ◌≤◌, ◌↔◌, None, Some, IsTrue, IfOk, OnOk, OnErr, All, Contains, length, map, IsSomeAnd, slice_get, vec_capacity, if◌then◌else◌};
 ghost use Rattle.aff_core.specs.declared.event.Event.{Event};
 ghost use Rattle.aff_core.specs.Kept.{IsKept, Tracks, place_of};
-ghost use Rattle.aff_core.specs.Kinds.{IsAnswer, kind_at};
+ghost use Rattle.aff_model.specs.Kinds.{IsAnswer, kind_at};
 ghost use Rattle.aff_core.specs.Steps.{CoreState, HasNoStep, IsShaped, IsStep, MayClaim, MayFinish, MayPublish, MayRaise, MayRead, extents_out, start};
 ghost use Rattle.aff_model.specs.Cells.{is_bad_at};
 ghost use Rattle.aff_model.specs.Legal.{IsComplete};
@@ -11,7 +11,7 @@ ghost use Rattle.aff_model.specs.Plan.{has_place};
 use crate::runs::add_run;
 use crate::standing::{Standing, is_free, is_held};
 use crate::{Event, Refused};
-use aff_model::{CHUNK, Extent, Kind, Memory, Plan, Publication, Run, SECTOR};
+use aff_model::{CHUNK, Extent, Kind, MAX_EXTENT, Memory, Plan, Publication, Run, SECTOR};
 use std::alloc::{AllocError, Global};
 use std::marker::Model;
 
@@ -244,7 +244,7 @@ fn kind_in(plan: &Plan, standings: &[Standing], history: &[Publication], at: u64
 
 // The kind of a place of a published extent.
 fn kind_published(extent: &Extent, publication: &Publication, at: u64) -> Kind
-    requires short { extent.now.len ≤ 16777216 }
+    requires short { extent.now.len ≤ MAX_EXTENT }
     requires inside { IsTrue (has_place at extent.now) }
     ensures { result ≡ (if is_bad_at extent.now publication.now at then Kind.Unreadable else Kind.Known) }
 {
@@ -257,7 +257,7 @@ fn kind_published(extent: &Extent, publication: &Publication, at: u64) -> Kind
 }
 
 fn is_shaped(extent: &Extent, publication: &Publication) -> bool
-    requires { extent.now.len ≤ 16777216 }
+    requires { extent.now.len ≤ MAX_EXTENT }
     ensures { IsTrue result ↔ IsShaped extent.now publication.now }
 {
     let bad = &publication.bad;

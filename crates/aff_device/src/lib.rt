@@ -1,7 +1,8 @@
-//! Reading an extent around the sectors that cannot be read.
+//! Reading an extent around the blocks that cannot be read.
 //!
-//! A range that cannot be read as a whole is read in halves, so that a sector counts as unreadable only
-//! after a reading of it alone has failed. `read_extent` takes no memory: `reserve_bad` takes it before.
+//! A range that cannot be read as a whole is read in halves, block by block at last, so that a block's sectors
+//! count as unreadable only after a reading of that block alone has failed. `read_extent` takes no memory:
+//! `reserve_bad` takes it before.
 #![tactic(auto)]
 
 mod extent;

@@ -4,10 +4,11 @@ ghost use Rattle.aff_hash.specs.Digest.{digest_of};
 
 use crate::fed::with_next;
 use crate::{Digests, Hash};
+use aff_lanes::Sha256Hasher;
 use boxcar::tag::Tag;
 use md5::{Digest as Md5Hasher, Md5};
 use sha1::Sha1;
-use sha2::{Digest as Sha2Hasher, Sha256, Sha512};
+use sha2::{Digest as Sha2Hasher, Sha512};
 use std::marker::Model;
 
 /// The linear hash of an image: its four digests, from bytes that are fed in order. Clauses see the list
@@ -16,7 +17,7 @@ use std::marker::Model;
 pub struct Linear {
     md5: Md5,
     sha1: Sha1,
-    sha256: Sha256,
+    sha256: Sha256Hasher,
     sha512: Sha512,
     fed: Tag,
 }
@@ -40,7 +41,7 @@ impl Linear {
         Linear {
             md5: Md5::new(),
             sha1: Sha1::new(),
-            sha256: Sha256::new(),
+            sha256: Sha256Hasher::new(),
             sha512: Sha512::new(),
             fed: Tag::empty(),
         }
@@ -67,7 +68,7 @@ impl Linear {
         Digests {
             md5: self.md5.finalize(),
             sha1: self.sha1.finalize(),
-            sha256: self.sha256.finalize(),
+            sha256: self.sha256.finish(),
             sha512: self.sha512.finalize(),
         }
     }

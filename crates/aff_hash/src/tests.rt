@@ -1,8 +1,11 @@
-ghost use Rattle.std.specs.Prelude.{◌≤◌, length};
+ghost use Rattle.std.specs.Prelude.{◌<◌, ◌≤◌, All, IfOk, length};
 
-use crate::{ChunkSums, Digests, Hash, Linear, chunk_sums, digest, hex_line};
+use crate::{ChunkSums, Digests, Hash, Linear, chunk_sums, digest, hex_line, sums_of_chosen};
 use hex::FromHex;
+use std::alloc::{AllocError, Global};
 use std::test::Fail;
+
+const CHUNKS: usize = 7;
 
 // Vectors from outside: the digests of no bytes and of `abc`.
 #[test]
@@ -60,6 +63,57 @@ fn a_chunk_of_zeros_has_its_three_digests(rt: HostRuntime) -> Result<(), Fail> {
     Ok(())
 }
 
+// The bytes of an extent: six whole chunks and a short one, no two alike.
+fn extent(alloc: Global) -> Result<Vec<u8>, AllocError> {
+    let mut bytes = Vec::new(alloc);
+    for sector in 0..64 * CHUNKS as u32 - 1 {
+        for place in 0..512 {
+            bytes.push((sector * 512 + place).to_le_bytes()[(place % 3) as usize])?;
+        }
+    }
+    Ok(bytes)
+}
+
+// The digests of each chunk, which is padded here in a list of its own.
+fn sums_of_each(alloc: Global, bytes: &[u8]) -> Result<Vec<ChunkSums>, AllocError> {
+    let mut sums = Vec::new(alloc);
+    for part in bytes.chunks(32_768) {
+        let mut chunk = part.to_vec(alloc)?;
+        chunk.resize(32_768, 0)?;
+        sums.push(chunk_sums(&chunk))?;
+    }
+    Ok(sums)
+}
+
+// The numbers of some chunks, in no order.
+fn numbers(alloc: Global, count: usize) -> Result<Vec<usize>, AllocError>
+    ensures { IfOk result (λ chosen. All (λ number. number < 7) chosen.items) }
+{
+    let mut chosen = Vec::new(alloc);
+    for i in 0..count {
+        chosen.push((i % CHUNKS * 5 + count % CHUNKS) % CHUNKS)?;
+    }
+    Ok(chosen)
+}
+
+// Every remainder of four and of eight. With memory enough each call answers.
+#[test]
+fn each_chosen_chunk_has_the_digests_of_its_stored_bytes(rt: HostRuntime) -> Result<(), Fail> {
+    let bytes = extent(rt.alloc())?;
+    let each = sums_of_each(rt.alloc(), &bytes)?;
+    for count in [0, 1, 2, 3, 4, 5, 6, 7, 8, 15] {
+        let chosen = numbers(rt.alloc(), count)?;
+        if bytes.len() > 32_768 * (CHUNKS - 1) {
+            let sums = sums_of_chosen(rt.alloc(), &bytes, &chosen)?;
+            assert_eq!(rt; sums.len(), chosen.len());
+            for (entry, number) in sums.iter().zip(&chosen) {
+                assert_eq!(rt; Some(*entry), each.get(*number).copied(), "chunk {number}");
+            }
+        }
+    }
+    Ok(())
+}
+
 fn in_three_pieces(whole: &[u8], first: usize, second: usize) -> Digests
     requires first { first ≤ second }
     requires second { second ≤ length whole.now }
@@ -77,9 +131,12 @@ fn may_be_sent<T: Send>(_value: &T) {}
 
 #[test]
 fn how_the_whole_is_cut_makes_no_difference(rt: HostRuntime) -> Result<(), Fail> {
-    let whole: Vec<u8> = (0..=255).collect(rt.alloc())?;
-    for first in [0, 1, 63, 64, 127, 256] {
-        for second in [0, 1, 64, 129, 255, 256] {
+    let mut whole = Vec::new(rt.alloc());
+    for place in 0..612_u32 {
+        whole.push((place % 251) as u8)?;
+    }
+    for first in [0, 1, 63, 64, 127, 256, 300] {
+        for second in [0, 1, 64, 129, 255, 256, 511, 512, 600] {
             if first <= second && second <= whole.len() {
                 let found = in_three_pieces(&whole, first, second);
                 assert_eq!(rt;

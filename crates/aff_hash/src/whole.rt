@@ -3,6 +3,7 @@ ghost use Rattle.std.specs.Prelude.{◌≡◌, ◌≤◌, ◌-◌, ◌++◌, len
 ghost use Rattle.aff_hash.specs.Digest.{digest_of, filled_digest_of};
 
 use crate::{ChunkSums, Digest, Hash};
+use aff_lanes::Sha256Hasher;
 use md5::{Digest as Md5Hasher, Md5};
 use sha1::Sha1;
 use sha2::{Digest as Sha2Hasher, Sha256, Sha512};
@@ -27,10 +28,12 @@ pub fn chunk_sums(bytes: &[u8]) -> ChunkSums
     ensures sha1 { result.sha1 ≡ digest_of Hash.Sha1 bytes.now }
     ensures sha256 { result.sha256 ≡ digest_of Hash.Sha256 bytes.now }
 {
+    let mut sha256 = Sha256Hasher::new();
+    sha256.update(bytes);
     ChunkSums {
         md5: Md5::digest(bytes),
         sha1: Sha1::digest(bytes),
-        sha256: Sha256::digest(bytes),
+        sha256: sha256.finish(),
     }
 }
 

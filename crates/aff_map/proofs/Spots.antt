@@ -9,7 +9,8 @@ use Rattle.std.proofs.lemmas.Option.{none-some, same_Some, slice_get_within, get
 use Rattle.aff_model.specs.declared.extent.Extent.{Extent}
 use Rattle.aff_model.specs.History.{Part, Published, publication_of}
 use Rattle.aff_model.specs.declared.publication.Place.{Place}
-use Rattle.aff_model.specs.Plan.{IsExtent, IsPlan, has_place}
+use Rattle.aff_model.specs.Plan.{has_place}
+use Rattle.aff_model.proofs.Sectors.{IsSectored, IsSectorPlan}
 use Rattle.aff_fields.specs.declared.entry.Entry.{Entry}
 use Rattle.aff_fields.specs.Entry.{FitsEntry}
 use Rattle.aff_spec.specs.Runs.{Spot, AreGreatestRuns, history_spot, published_spot, spot_by}
@@ -168,27 +169,27 @@ pub turn_in_range : {A : Type 0} (view : A → Published) (extents : List Extent
 turn_in_range view extents xs t is = omega (arith, slice_get_within (map view xs) t.number is.0 is.1, length-map xs view)
 
 -- what a plan and a publication say of a turn
-pub turn_extent : (size : ℕ) (extents : List Extent) (history : List Published) (t : Turn) → IsPlan size extents → IsTurnOf extents history t → IsExtent size t.extent
+pub turn_extent : (size : ℕ) (extents : List Extent) (history : List Published) (t : Turn) → IsSectorPlan size extents → IsTurnOf extents history t → IsSectored size t.extent
 turn_extent size extents history t plan is =
     let below : is.0.extent < length extents = slice_get_within extents is.0.extent t.extent is.2 in
-    subst (IsExtent size) (get_or_from_slice_get extents is.0.extent t.extent t.extent is.2) (plan.each is.0.extent t.extent below)
+    subst (IsSectored size) (get_or_from_slice_get extents is.0.extent t.extent t.extent is.2) (plan.each is.0.extent t.extent below)
 
 pub turn_mappable : (extents : List Extent) (history : List Published) (t : Turn) (p : Published) → AreMappable extents history → IsTurnOf extents history t → slice_get history t.number ≡ Some p → IsMappable t.extent p
 turn_mappable extents history t p mappable is at =
     let told = extent_of extents history t.number p mappable at in
     subst (λ (e : Extent). IsMappable e p) (same_extent extents history t p told.0 is at told.1) told.2
 
-turns_end : (size n : ℕ) (extents : List Extent) (history : List Published) (turns : List Turn) → IsPlan size extents → AreTurns extents history turns → size ≤ n → IsBetween turns (length turns) n
+turns_end : (size n : ℕ) (extents : List Extent) (history : List Published) (turns : List Turn) → IsSectorPlan size extents → AreTurns extents history turns → size ≤ n → IsBetween turns (length turns) n
 turns_end size n extents history turns plan are large = record {
   done = λ m d early below. let inside = (turn_extent size extents history (get_or turns m d) plan (are.each m d below)).inside in omega (arith, inside, large);
   rest = λ m d late below. absurd (omega arith);
 }
 
-pub IsMapOf-runs : (size : ℕ) (extents : List Extent) (history : List Published) (turns : List Turn) (entries : List Entry) → IsPlan size extents → AreTurns extents history turns → IsMapOf extents history turns (length turns) entries → AreGreatestRuns (history_spot extents history) entries
+pub IsMapOf-runs : (size : ℕ) (extents : List Extent) (history : List Published) (turns : List Turn) (entries : List Entry) → IsSectorPlan size extents → AreTurns extents history turns → IsMapOf extents history turns (length turns) entries → AreGreatestRuns (history_spot extents history) entries
 IsMapOf-runs size extents history turns entries plan are map =
     AreGreatestRuns-from_below (history_spot extents history) entries (λ n. (n + size, omega arith, map.runs (n + size) (turns_end size (n + size) extents history turns plan are (omega arith))))
 
-pub IsMapOf-inside : (size : ℕ) (extents : List Extent) (history : List Published) (turns : List Turn) (entries : List Entry) → IsPlan size extents → AreTurns extents history turns → IsMapOf extents history turns (length turns) entries → All (λ e. e.at + e.len ≤ size) entries
+pub IsMapOf-inside : (size : ℕ) (extents : List Extent) (history : List Published) (turns : List Turn) (entries : List Entry) → IsSectorPlan size extents → AreTurns extents history turns → IsMapOf extents history turns (length turns) entries → All (λ e. e.at + e.len ≤ size) entries
 IsMapOf-inside size extents history turns entries plan are map = (map.runs size (turns_end size size extents history turns plan are (omega arith))).ends
 
 -- the turns, by what the code reads of them

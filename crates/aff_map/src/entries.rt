@@ -7,10 +7,10 @@ ghost use Rattle.aff_map.specs.Building.{Adds};
 ghost use Rattle.aff_model.specs.Pieces.{published};
 ghost use Rattle.aff_map.specs.Mappable.{AreMappable, IsMappable};
 
-use crate::chunk::push_extent;
+use crate::extent::push_extent;
 use crate::order::turns;
 use aff_fields::Entry;
-use aff_model::{Extent, Memory, Piece, Plan};
+use aff_model::{Extent, MAX_EXTENT, Memory, Piece, Plan};
 use std::alloc::{AllocError, Global};
 use std::sync::Arc;
 
@@ -59,7 +59,7 @@ fn push_piece<R: Drop>(
     piece: &Piece<R>,
 ) -> Result<(), AllocError>
     requires whole { (extent.at % 512 ≡ 0) × (extent.len % 512 ≡ 0) }
-    requires short { extent.len ≤ 16777216 }
+    requires short { extent.len ≤ MAX_EXTENT }
     requires fits { extent.at + extent.len < 2 ^ 64 }
     requires mappable { IsMappable extent (publication_of piece.now) }
     ensures { OnOk result (Adds extent.at (extent.at + extent.len) (published_spot extent (publication_of piece.now)) entries.old.items entries.new.items) }

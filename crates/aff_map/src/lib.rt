@@ -5,8 +5,8 @@
 //! stream, 1 for zeros and 2 for unreadable bytes.
 #![tactic(auto)]
 
-mod chunk;
 mod entries;
+mod extent;
 mod order;
 mod run;
 mod target;

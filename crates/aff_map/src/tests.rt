@@ -89,7 +89,7 @@ fn entries_of_one(
             priority: 0
         },
     ]?;
-    let plan = Plan::of(alloc, extents, len)?;
+    let plan = Plan::of(alloc, extents, len, 512)?;
     if !may_have(len, bad, places) {
         return Err("the sectors or places are wrong")?;
     }
@@ -156,7 +156,7 @@ fn entries_of_two(alloc: Global, first: u32, second: u32) -> Result<Vec<Entry>, 
             priority: 0
         },
     ]?;
-    let plan = Plan::of(alloc, extents, 65_536)?;
+    let plan = Plan::of(alloc, extents, 65_536, 512)?;
     let pieces = vec![in alloc;
         piece(alloc, first, &[], &[Place::Chunk(0)])?,
         piece(alloc, second, &[], &[Place::Chunk(1)])?,

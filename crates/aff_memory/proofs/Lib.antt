@@ -1,5 +1,5 @@
-pub mod Blocks
-pub mod Places
+pub mod Appends
+pub mod Indexes
 pub mod Puts
 pub mod Sectors
 pub mod Shelves

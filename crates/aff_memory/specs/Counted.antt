@@ -1,6 +1,7 @@
 -- The calls of an object, some of which are to fail.
-use Rattle.std.specs.Prelude.{ℕ, ◌+◌, ◌-◌, ◌^◌, ◌==◌, min, Bool, List, if◌then◌else◌}
+use Rattle.std.specs.Prelude.{ℕ, ◌==◌, Bool, List, if◌then◌else◌}
 use Rattle.std.specs.List.{list_any}
+use Rattle.aff_outside.specs.Outcomes.{raised}
 
 -- which calls are to fail, and how many calls and failures there were
 pub record Counted : Type 0 where
@@ -11,10 +12,6 @@ pub record Counted : Type 0 where
 -- before the first call
 abbrev pub uncalled : List ℕ → Counted
 uncalled fail = record { fail = fail; made = 0; faults = 0 }
-
--- one more, or the last value
-abbrev pub raised : ℕ → ℕ
-raised n = min (n + 1) (2 ^ 64 - 1)
 
 -- the number of the next call, from 1
 abbrev pub next_call : Counted → ℕ

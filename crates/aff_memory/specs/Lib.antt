@@ -1,3 +1,4 @@
+pub mod BlockSizes
 pub mod Counted
 pub mod Fixed
 pub mod Flaked

@@ -27,7 +27,7 @@ shelved_code =
 abbrev pub folder_of : List (List ℕ × List ℕ) → Held
 folder_of entries = map.from_sorted entries
 
--- the segment has this place among the sorted entries: its bytes stand there, and to give it other bytes is to set that
+-- the segment has this index among the sorted entries: its bytes stand there, and to give it other bytes is to set that
 -- entry
 pub record StandsAt (entries : List (List ℕ × List ℕ)) (name : List ℕ) (i : ℕ) : Type 0 where
   pub inside : i < length entries
@@ -35,7 +35,7 @@ pub record StandsAt (entries : List (List ℕ × List ℕ)) (name : List ℕ) (i
   pub key : (d : List ℕ × List ℕ) → (slice_index_or entries i d).0 ≡ name
   pub set : (bytes : List ℕ) → map.put (slice_cmp nat_cmp) name bytes entries ≡ slice_set entries i (name, bytes)
 
--- there is no such segment, and to put it with any bytes among the sorted entries is to insert it at this place
+-- there is no such segment, and to put it with any bytes among the sorted entries is to insert it at this index
 pub record IsGap (entries : List (List ℕ × List ℕ)) (name : List ℕ) (i : ℕ) : Type 0 where
   pub inside : i ≤ length entries
   pub missing : map.find (slice_cmp nat_cmp) name entries ≡ None

@@ -1,14 +1,16 @@
 //! A device of given bytes, some of whose sectors fail at first.
 ghost use Rattle.std.specs.Prelude.{◌≡◌, ◌↔◌, ◌+◌, ◌≤◌, ◌/◌, ◌%◌, length, map, Some, IsErr, IsTrue, OnOk, OnErr};
+ghost use Rattle.aff_model.specs.declared.limits.TheConstants.{SECTOR};
 ghost use Rattle.aff_model.specs.Causes.{HasCause};
 ghost use Rattle.aff_model.specs.Content.{IsRead, Touches};
 ghost use Rattle.aff_memory.specs.Flaked.{flaky_content, still_fails, worn};
 
 use crate::flaky::Flaky;
+use aff_model::SECTOR;
 use aff_outside::{Device, DeviceFailed};
 use std::marker::Model;
 
-/// Holds given bytes. A reading fails exactly where it touches a sector that is to fail still; it counts
+/// Holds given bytes, in blocks of one sector. A reading fails exactly where it touches a sector that is to fail still; it counts
 /// for each listed sector that it touches.
 #[derive(Drop)]
 pub struct FlakyDevice {
@@ -56,31 +58,37 @@ fn wear_all(flaky: &mut [Flaky], first: u64, end: u64)
 impl Device for FlakyDevice {
     ghost device_content = { λ d. Some (flaky_content d) };
 
+    ghost device_block = { λ _. SECTOR };
+
     ghost device_size = { λ d. length d.bytes };
 
     ghost device_faults = { λ d. d.faults };
+
+    fn block(&self) -> u32 {
+        SECTOR as u32
+    }
 
     fn size(&self) -> u64 {
         self.bytes.len() as u64
     }
 
     fn read_at(&mut self, at: u64, out: &mut [u8]) -> Result<(), DeviceFailed>
-        requires whole { at % 512 ≡ 0 }
-        requires whole_len { length out.old % 512 ≡ 0 }
+        requires whole { at % SECTOR ≡ 0 }
+        requires whole_len { length out.old % SECTOR ≡ 0 }
         requires inside { at + length out.old ≤ length self.old.bytes }
         ensures bytes { OnOk result (IsRead (flaky_content self.old) at out.new) }
         ensures weak { OnErr result (Touches (flaky_content self.old).weak at (length out.old)) }
         ensures content { flaky_content self.new ≡ flaky_content self.old }
         ensures size { length self.new.bytes ≡ length self.old.bytes }
         ensures cause { HasCause self.old.faults self.new.faults (IsErr result) }
-        ensures failed { IsErr result ↔ IsTrue (still_fails (at / 512) ((at + length out.old) / 512) self.old.flaky) }
-        ensures worn { self.new.flaky ≡ map (worn (at / 512) ((at + length out.old) / 512)) self.old.flaky }
+        ensures failed { IsErr result ↔ IsTrue (still_fails (at / SECTOR) ((at + length out.old) / SECTOR) self.old.flaky) }
+        ensures worn { self.new.flaky ≡ map (worn (at / SECTOR) ((at + length out.old) / SECTOR)) self.old.flaky }
     {
         let whole = self.bytes.as_slice();
         let start = at as usize;
         let end = start + out.len();
-        let fails = any_fails(&self.flaky, at / 512, end as u64 / 512);
-        wear_all(&mut self.flaky, at / 512, end as u64 / 512);
+        let fails = any_fails(&self.flaky, at / SECTOR, end as u64 / SECTOR);
+        wear_all(&mut self.flaky, at / SECTOR, end as u64 / SECTOR);
         if fails {
             self.faults = self.faults.saturating_add(1);
             return Err(DeviceFailed);

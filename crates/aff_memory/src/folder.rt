@@ -5,9 +5,9 @@ ghost use Rattle.aff_model.specs.Causes.{HasCause};
 ghost use Rattle.aff_model.specs.Held.{appended, bytes_of, IsInside, lengths};
 ghost use Rattle.aff_memory.specs.Counted.{fails, counted, uncalled};
 
-use crate::block::Block;
 use crate::calls::Calls;
 use crate::peek::{MemoryPeek, MemoryReceipt, peeks_of};
+use crate::shared_bytes::SharedBytes;
 use crate::shelf::Shelf;
 use aff_outside::{Folder, FolderError, Segment};
 use std::alloc::Global;
@@ -92,9 +92,9 @@ impl Folder for MemoryFolder {
         if self.calls.fails() {
             return Err(FolderError::Failed);
         }
-        let block = Block::new(self.alloc, bytes)?;
-        let receipt = MemoryReceipt::new(block.share()?);
-        self.shelf.append(name, block)?;
+        let shared = SharedBytes::new(self.alloc, bytes)?;
+        let receipt = MemoryReceipt::new(shared.share()?);
+        self.shelf.append(name, shared)?;
         Ok(receipt)
     }
 

@@ -4,17 +4,17 @@ ghost use Rattle.std.specs.List.{concat};
 ghost use Rattle.std.specs.Ordering.{nat_cmp};
 ghost use Rattle.std.specs.Cmp.Lexicographic.{slice_cmp};
 
-use crate::block::Block;
+use crate::shared_bytes::SharedBytes;
 use aff_outside::Segment;
 use std::alloc::{AllocError, Global};
 use std::cmp::Ordering;
 use std::marker::Model;
 
-/// A segment with its blocks, which joined are its bytes.
+/// A segment with its appends, which joined are its bytes.
 #[derive(Drop)]
 pub struct Kept {
     name: String,
-    blocks: Vec<Block>,
+    appends: Vec<SharedBytes>,
     len: u64,
 }
 
@@ -25,21 +25,21 @@ impl Model for Kept {
 
     ghost Value = { List ℕ × List ℕ };
 
-    ghost view = { λ k. (string_bytes k.name, concat k.blocks.items) };
+    ghost view = { λ k. (string_bytes k.name, concat k.appends.items) };
 
-    ghost invariant = { λ k. k.len ≡ length (concat k.blocks.items) };
+    ghost invariant = { λ k. k.len ≡ length (concat k.appends.items) };
 }
 
-/// Copies a part of the blocks' bytes.
-fn copy_blocks(blocks: &[Block], at: usize, out: &mut [u8])
-    requires { at + length out.old ≤ length (concat blocks.now) }
-    ensures { out.new ≡ take (length out.old) (drop at (concat blocks.now)) }
+/// Copies a part of the appends' bytes.
+fn copy_appends(appends: &[SharedBytes], at: usize, out: &mut [u8])
+    requires { at + length out.old ≤ length (concat appends.now) }
+    ensures { out.new ≡ take (length out.old) (drop at (concat appends.now)) }
 {
     let mut skip = at;
     let mut filled = 0;
-    for block in blocks {
-        filled += block.copy_part(skip, &mut out[filled..]);
-        skip = skip.saturating_sub(block.len());
+    for shared in appends {
+        filled += shared.copy_part(skip, &mut out[filled..]);
+        skip = skip.saturating_sub(shared.len());
     }
 }
 
@@ -49,16 +49,16 @@ impl Kept {
     {
         Ok(Kept {
             name: String::from_str(alloc, name)?,
-            blocks: Vec::new(alloc),
+            appends: Vec::new(alloc),
             len: 0,
         })
     }
 
-    pub fn new(alloc: Global, name: &str, block: Block) -> Result<Kept, AllocError>
-        ensures { IfOk result (λ kept. kept ≡ (name.now, block)) }
+    pub fn new(alloc: Global, name: &str, shared: SharedBytes) -> Result<Kept, AllocError>
+        ensures { IfOk result (λ kept. kept ≡ (name.now, shared)) }
     {
         let mut kept = Kept::empty(alloc, name)?;
-        kept.grow(block)?;
+        kept.grow(shared)?;
         Ok(kept)
     }
 
@@ -69,15 +69,15 @@ impl Kept {
         name.cmp(&self.name.as_str())
     }
 
-    pub fn grow(&mut self, block: Block) -> Result<(), AllocError>
-        ensures ok { OnOk result (self.new ≡ (self.old.0, self.old.1 ++ block)) }
+    pub fn grow(&mut self, shared: SharedBytes) -> Result<(), AllocError>
+        ensures ok { OnOk result (self.new ≡ (self.old.0, self.old.1 ++ shared)) }
         ensures err { OnErr result (self.new ≡ self.old) }
         ensures key { self.new.0 ≡ self.old.0 }
     {
-        let Some(len) = self.len.checked_add(block.len() as u64) else {
+        let Some(len) = self.len.checked_add(shared.len() as u64) else {
             return Err(AllocError);
         };
-        self.blocks.push(block)?;
+        self.appends.push(shared)?;
         self.len = len;
         Ok(())
     }
@@ -87,7 +87,7 @@ impl Kept {
         requires { at + length out.old ≤ length self.now.1 }
         ensures { out.new ≡ take (length out.old) (drop at self.now.1) }
     {
-        copy_blocks(&self.blocks, at as usize, out);
+        copy_appends(&self.appends, at as usize, out);
     }
 
     pub fn segment(&self, alloc: Global) -> Result<Segment, AllocError>

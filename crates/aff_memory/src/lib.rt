@@ -5,10 +5,10 @@
 //! the object's methods, that are to fail. Such a call answers that it failed and does nothing else, and no
 //! other call answers so. A folder also has such a list for each of its peeks.
 //!
-//! The folder holds each appended block once, and shares it with the receipt of that append.
+//! The folder holds the bytes of each append once, and shares them with the receipt of that append.
 #![tactic(auto)]
 
-mod block;
+mod block_size;
 mod calls;
 mod fixed;
 mod flaky;
@@ -16,6 +16,7 @@ mod flaky_device;
 mod folder;
 mod kept;
 mod peek;
+mod shared_bytes;
 mod shelf;
 #[cfg(test)]
 mod tests;

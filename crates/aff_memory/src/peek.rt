@@ -3,8 +3,8 @@ ghost use Rattle.std.specs.Prelude.{◌≡◌, ◌↔◌, true, length, All, IfO
 ghost use Rattle.aff_model.specs.Causes.{HasCause};
 ghost use Rattle.aff_memory.specs.Counted.{fails, counted, uncalled};
 
-use crate::block::Block;
 use crate::calls::Calls;
+use crate::shared_bytes::SharedBytes;
 use aff_outside::{Peek, PeekFailed, Telling};
 use std::alloc::{AllocError, Global};
 use std::marker::Model;
@@ -12,7 +12,7 @@ use std::marker::Model;
 /// Shares the appended bytes with the folder.
 #[derive(Drop)]
 pub struct MemoryReceipt {
-    block: Block,
+    shared: SharedBytes,
 }
 
 impl Model for MemoryReceipt {
@@ -20,14 +20,14 @@ impl Model for MemoryReceipt {
 
     ghost Value = { List ℕ };
 
-    ghost view = { λ r. r.block };
+    ghost view = { λ r. r.shared };
 }
 
 impl MemoryReceipt {
-    pub(crate) fn new(block: Block) -> MemoryReceipt
-        ensures { result ≡ block }
+    pub(crate) fn new(shared: SharedBytes) -> MemoryReceipt
+        ensures { result ≡ shared }
     {
-        MemoryReceipt { block }
+        MemoryReceipt { shared }
     }
 }
 
@@ -94,7 +94,7 @@ impl Peek<MemoryReceipt> for MemoryPeek {
         if self.calls.fails() {
             return Err(PeekFailed);
         }
-        out.copy_from_slice(receipt.block.bytes());
+        out.copy_from_slice(receipt.shared.bytes());
         Ok(())
     }
 }

@@ -6,15 +6,15 @@ ghost use Rattle.std.specs.FinMap as map;
 ghost use Rattle.aff_model.specs.Held.{appended, bytes_of, IsInside, lengths};
 ghost use Rattle.aff_memory.specs.Shelf.{StandsAt, IsGap};
 
-use crate::block::Block;
 use crate::kept::Kept;
+use crate::shared_bytes::SharedBytes;
 use aff_outside::Segment;
 use std::alloc::{AllocError, Global};
 use std::cmp::Ordering;
 use std::marker::Model;
 
-/// The place of a name among sorted segments, or the place where it is missing.
-fn place_of(kept: &[Kept], name: &str) -> Result<usize, usize>
+/// The index of a name among sorted segments, or the index at which it is missing.
+fn index_of(kept: &[Kept], name: &str) -> Result<usize, usize>
     requires { IsTrue (map.is_sorted (slice_cmp nat_cmp) kept.now) }
     ensures found { IfOk result (StandsAt kept.now name.now) }
     ensures missing { IfErr result (IsGap kept.now name.now) }
@@ -74,14 +74,14 @@ impl Shelf {
         }
     }
 
-    pub fn append(&mut self, name: &str, block: Block) -> Result<(), AllocError>
-        ensures ok { OnOk result (self.new ≡ appended self.old name.now block) }
+    pub fn append(&mut self, name: &str, shared: SharedBytes) -> Result<(), AllocError>
+        ensures ok { OnOk result (self.new ≡ appended self.old name.now shared) }
         ensures err { OnErr result (self.new ≡ self.old) }
     {
-        match place_of(&self.kept, name) {
-            Ok(i) => self.kept[i].grow(block),
+        match index_of(&self.kept, name) {
+            Ok(i) => self.kept[i].grow(shared),
             Err(i) => {
-                let one = Kept::new(self.alloc, name, block)?;
+                let one = Kept::new(self.alloc, name, shared)?;
                 self.kept.insert(i, one).map_err(AllocError::from)
             }
         }
@@ -91,7 +91,7 @@ impl Shelf {
         requires { IsInside self.now name.now at (length out.old) }
         ensures { out.new ≡ take (length out.old) (drop at (bytes_of self.now name.now)) }
     {
-        match place_of(&self.kept, name) {
+        match index_of(&self.kept, name) {
             Ok(i) => self.kept[i].copy(at, out),
             Err(_) => unreachable!(),
         }

@@ -37,6 +37,23 @@ fn fixed_device_fails_where_a_bad_sector_is_touched(rt: HostRuntime) -> Result<(
 }
 
 #[test]
+fn large_blocks_fail_as_a_whole(rt: HostRuntime) -> Result<(), Fail> {
+    let alloc = rt.alloc();
+    let mut device = FixedDevice::blocks(numbered(alloc, 24)?, vec![in alloc; 1]?);
+    assert_eq!(rt; device.size(), 12288);
+    assert_eq!(rt; device.block(), 4096);
+    let mut two = numbered(alloc, 16)?;
+    assert_eq!(rt; device.read_at(0, &mut two), Err(DeviceFailed));
+    assert_eq!(rt; device.read_at(4096, &mut two), Err(DeviceFailed));
+    let mut one = numbered(alloc, 8)?;
+    assert_eq!(rt; device.read_at(0, &mut one), Ok(()));
+    assert!(rt; one.as_slice() == numbered(alloc, 8)?.as_slice());
+    assert_eq!(rt; device.read_at(8192, &mut one), Ok(()));
+    assert!(rt; one.iter().take(512).all(|byte| *byte == 16));
+    Ok(())
+}
+
+#[test]
 fn flaky_device_fails_at_first(rt: HostRuntime) -> Result<(), Fail> {
     let alloc = rt.alloc();
     let flaky = Flaky {

@@ -1,6 +1,7 @@
 -- What an image has at a place after a history.
 use Rattle.std.specs.Prelude.{ℕ, ◌-◌, ◌/◌, ◌==◌, Bool, List, [], ◌∷◌, Option, None, Some, slice_get, if◌then◌else◌}
 use Rattle.std.specs.List.{list_any}
+use Rattle.aff_model.specs.declared.limits.TheConstants.{SECTOR}
 use Rattle.aff_model.specs.declared.extent.Extent.{Extent}
 use Rattle.aff_model.specs.declared.cell.Cell.{Cell}
 use Rattle.aff_model.specs.declared.cell.Cell.TheVariants.{Byte, Unreadable, Unknown}
@@ -10,7 +11,7 @@ use Rattle.aff_model.specs.History.{Published}
 
 -- the sector of a place, counted from the first of an extent that holds it
 abbrev pub sector_in : Extent → ℕ → ℕ
-sector_in e i = i / 512 - e.at / 512
+sector_in e i = i / SECTOR - e.at / SECTOR
 
 -- the sector of a place in a published extent could not be read
 abbrev pub is_bad_at : Extent → Published → ℕ → Bool
@@ -30,4 +31,4 @@ cell_of c extents (p ∷ history) i = cell_by c (slice_get extents p.extent) p i
 -- over the device), else the device's byte
 abbrev pub content_of : Content → List Extent → (ℕ → Bool) → ℕ → Cell
 content_of c extents unreadable i =
-    if list_any (has_place i) extents then (if unreadable (i / 512) then Unreadable else Byte (c.byte i)) else Unknown
+    if list_any (has_place i) extents then (if unreadable (i / SECTOR) then Unreadable else Byte (c.byte i)) else Unknown

@@ -1,39 +1,50 @@
 -- Which fault a list of extents has, where it is no plan.
 use Rattle.std.specs.Prelude.{◌≡◌, ℕ, ◌+◌, ◌%◌, ◌<◌, ◌≤◌, List, length, take, All, AllPairs}
+use Rattle.aff_model.specs.declared.limits.TheConstants.{MAX_EXTENT, MAX_EXTENTS, MAX_TOTAL, MAX_PRIORITY}
 use Rattle.aff_model.specs.declared.extent.Extent.{Extent}
 use Rattle.aff_model.specs.declared.plan.PlanFault.{PlanFault}
-use Rattle.aff_model.specs.declared.plan.PlanFault.TheVariants.{Sector, TooLong, TooMany, PastEnd, Priority, Overlap, Memory}
-use Rattle.aff_model.specs.Plan.{IsExtent, AreApart}
+use Rattle.aff_model.specs.declared.plan.PlanFault.TheVariants.{Sector, TooLong, TooMany, PastEnd, Priority, Total, Overlap, Memory}
+use Rattle.aff_model.specs.Plan.{IsExtent, AreApart, bytes_in}
 use Rattle.aff_model.specs.Index.{extent_at}
 
--- whole sectors, and some
-pub record IsWhole (e : Extent) : Type 0 where
-  pub at_whole : e.at % 512 ≡ 0
-  pub len_whole : e.len % 512 ≡ 0
+-- whole blocks, and some
+pub record IsWhole (block : ℕ) (e : Extent) : Type 0 where
+  pub at_whole : e.at % block ≡ 0
+  pub len_whole : e.len % block ≡ 0
   pub some : 0 < e.len
 
--- the extent of a number keeps every rule that it can keep by itself
-pub record Fits (size k : ℕ) (e : Extent) : Type 0 where
-  pub extent : IsExtent size e
-  pub few : k < 65536
+-- whole blocks, and not too many of them
+abbrev pub IsShort : ℕ → Extent → Type 0
+IsShort block e = IsWhole block e × (e.len ≤ MAX_EXTENT)
 
--- the extent of a number breaks the rule of a fault, and none that is asked before it: whole sectors, length, count of
--- extents, size, priority
-abbrev pub Breaks : ℕ → ℕ → Extent → PlanFault → Type 0
-Breaks size k e (Sector i) = (i ≡ k) × (¬ (IsWhole e))
-Breaks size k e (TooLong i) = (i ≡ k) × IsWhole e × (16777216 < e.len)
-Breaks size k e TooMany = IsWhole e × (e.len ≤ 16777216) × (65536 ≤ k)
-Breaks size k e (PastEnd i) = (i ≡ k) × IsWhole e × (e.len ≤ 16777216) × (k < 65536) × (size < e.at + e.len)
-Breaks size k e (Priority i) = (i ≡ k) × IsWhole e × (e.len ≤ 16777216) × (k < 65536) × (e.at + e.len ≤ size) × (9 < e.priority)
-Breaks size k e (Overlap j i) = ⊥
-Breaks size k e Memory = ⊥
+-- such an extent, one of the first 65,536, that ends inside the device
+abbrev pub EndsInside : ℕ → ℕ → ℕ → Extent → Type 0
+EndsInside size block k e = IsShort block e × (k < MAX_EXTENTS) × (e.at + e.len ≤ size)
 
--- the fault is that of the first extent that breaks a rule by itself
-pub record IsOwnFault (size : ℕ) (extents : List Extent) (fault : PlanFault) : Type 0 where
+-- the extent of a number breaks the rule of a fault, and none that is asked before it: whole blocks, length, count of
+-- extents, size, priority, and the bytes of all extents up to this one
+abbrev pub Breaks : ℕ → ℕ → List Extent → ℕ → PlanFault → Type 0
+Breaks size block extents k (Sector i) = (i ≡ k) × (¬ (IsWhole block (extent_at extents k)))
+Breaks size block extents k (TooLong i) = (i ≡ k) × IsWhole block (extent_at extents k) × (MAX_EXTENT < (extent_at extents k).len)
+Breaks size block extents k TooMany = IsShort block (extent_at extents k) × (MAX_EXTENTS ≤ k)
+Breaks size block extents k (PastEnd i) = (i ≡ k) × IsShort block (extent_at extents k) × (k < MAX_EXTENTS) × (size < (extent_at extents k).at + (extent_at extents k).len)
+Breaks size block extents k (Priority i) = (i ≡ k) × EndsInside size block k (extent_at extents k) × (MAX_PRIORITY < (extent_at extents k).priority)
+Breaks size block extents k (Total i) = (i ≡ k) × EndsInside size block k (extent_at extents k) × ((extent_at extents k).priority ≤ MAX_PRIORITY) × (MAX_TOTAL < bytes_in (take (k + 1) extents))
+Breaks size block extents k (Overlap j i) = ⊥
+Breaks size block extents k Memory = ⊥
+
+-- the extent of a number keeps every rule that it can keep by itself and with those before it, but for overlaps
+pub record KeepsRules (size block : ℕ) (extents : List Extent) (k : ℕ) : Type 0 where
+  pub extent : IsExtent size block (extent_at extents k)
+  pub few : k < MAX_EXTENTS
+  pub total : bytes_in (take (k + 1) extents) ≤ MAX_TOTAL
+
+-- the fault is that of the first extent that breaks such a rule
+pub record IsOwnFault (size block : ℕ) (extents : List Extent) (fault : PlanFault) : Type 0 where
   pub number : ℕ
   pub there : number < length extents
-  pub before : (k : ℕ) → k < number → Fits size k (extent_at extents k)
-  pub breaks : Breaks size number (extent_at extents number) fault
+  pub before : (k : ℕ) → k < number → KeepsRules size block extents k
+  pub breaks : Breaks size block extents number fault
 
 -- j is the least number whose extent shares a byte with an earlier one, and i is the least such earlier one
 pub record IsFirstOverlap (extents : List Extent) (j i : ℕ) : Type 0 where
@@ -43,19 +54,21 @@ pub record IsFirstOverlap (extents : List Extent) (j i : ℕ) : Type 0 where
   pub shared : ¬ (AreApart (extent_at extents i) (extent_at extents j))
   pub first : (k : ℕ) → k < i → AreApart (extent_at extents k) (extent_at extents j)
 
--- every extent keeps the rules by itself, and this is the first overlap
-pub record IsOverlapFault (size : ℕ) (extents : List Extent) (j i : ℕ) : Type 0 where
-  pub each : All (IsExtent size) extents
-  pub few : length extents ≤ 65536
+-- every extent keeps the rules, but for overlaps, and this is the first overlap
+pub record IsOverlapFault (size block : ℕ) (extents : List Extent) (j i : ℕ) : Type 0 where
+  pub each : All (IsExtent size block) extents
+  pub few : length extents ≤ MAX_EXTENTS
+  pub total : bytes_in extents ≤ MAX_TOTAL
   pub overlap : IsFirstOverlap extents j i
 
 -- the fault for which a list of extents is refused: extent by extent from 0, and overlaps after all extents; want of
 -- memory is no fault of the list
-abbrev pub IsFirstFault : ℕ → List Extent → PlanFault → Type 0
-IsFirstFault size extents (Sector i) = IsOwnFault size extents (Sector i)
-IsFirstFault size extents (TooLong i) = IsOwnFault size extents (TooLong i)
-IsFirstFault size extents TooMany = IsOwnFault size extents TooMany
-IsFirstFault size extents (PastEnd i) = IsOwnFault size extents (PastEnd i)
-IsFirstFault size extents (Priority i) = IsOwnFault size extents (Priority i)
-IsFirstFault size extents (Overlap j i) = IsOverlapFault size extents j i
-IsFirstFault size extents Memory = ⊥
+abbrev pub IsFirstFault : ℕ → ℕ → List Extent → PlanFault → Type 0
+IsFirstFault size block extents (Sector i) = IsOwnFault size block extents (Sector i)
+IsFirstFault size block extents (TooLong i) = IsOwnFault size block extents (TooLong i)
+IsFirstFault size block extents TooMany = IsOwnFault size block extents TooMany
+IsFirstFault size block extents (PastEnd i) = IsOwnFault size block extents (PastEnd i)
+IsFirstFault size block extents (Priority i) = IsOwnFault size block extents (Priority i)
+IsFirstFault size block extents (Total i) = IsOwnFault size block extents (Total i)
+IsFirstFault size block extents (Overlap j i) = IsOverlapFault size block extents j i
+IsFirstFault size block extents Memory = ⊥

@@ -5,6 +5,7 @@ pub mod Faults
 pub mod Held
 pub mod History
 pub mod Index
+pub mod Kinds
 pub mod Legal
 pub mod Pieces
 pub mod Plan

@@ -1,20 +1,21 @@
 //! A valid plan: which extents are to be read, none of which shares a byte with another.
 ghost use Rattle.std.specs.Prelude.{◌≡◌, ℕ, ◌+◌, ◌-◌, ◌<◌, ◌≤◌, ◌≢◌, ◌↔◌, ◌^◌, ◌⊎◌, IsTrue, length, take, All, AllPairs, IfOk, IfErr, OnErr, IfSome, IsSomeAnd, IsOk, is_some, MatchResult, slice_index, slice_get};
 ghost use Rattle.std.specs.List.{range_with_len, list_any};
-ghost use Rattle.aff_model.specs.Faults.{Breaks, Fits, IsFirstFault, IsFirstOverlap, IsOwnFault};
+ghost use Rattle.aff_model.specs.Faults.{Breaks, KeepsRules, IsFirstFault, IsFirstOverlap, IsOwnFault};
 ghost use Rattle.aff_model.specs.Index.{HasBytes, IsIndex, end_of, extent_at, start_of};
-ghost use Rattle.aff_model.specs.Plan.{AreApart, IsExtent, IsPlan, has_place};
+ghost use Rattle.aff_model.specs.Plan.{AreApart, IsExtent, IsPlan, bytes_in, has_place};
+ghost use Rattle.aff_model.specs.Content.{IsBlock};
 
-use crate::{Extent, MAX_EXTENT, MAX_EXTENTS, SECTOR};
+use crate::{Extent, MAX_EXTENT, MAX_EXTENTS, MAX_PRIORITY, MAX_TOTAL};
 use std::alloc::{AllocError, Global};
 use std::marker::Model;
 
 /// Why a list of extents is no plan. Numbers are places in the list, from 0.
 #[derive(Clone, Copy, Debug, PartialEq, Eq)]
 pub enum PlanFault {
-    /// The extent's place or length is no multiple of 512, or its length is 0.
+    /// The extent's offset or length is no multiple of the block, or its length is 0.
     Sector(u32),
-    /// The extent is longer than 16,777,216 bytes.
+    /// The extent is longer than 67,108,864 bytes.
     TooLong(u32),
     /// There are more than 65,536 extents.
     TooMany,
@@ -22,6 +23,8 @@ pub enum PlanFault {
     PastEnd(u32),
     /// The extent's priority is over 9.
     Priority(u32),
+    /// The lengths up to this extent's add up to more than 2^40 bytes.
+    Total(u32),
     /// The first extent shares a byte with the second, which stands before it.
     Overlap(u32, u32),
     /// There was no memory to look for overlaps.
@@ -38,13 +41,15 @@ impl From<AllocError> for PlanFault {
     }
 }
 
-/// A list of extents that meets all rules of a plan, and the size of the device that it is for.
+/// A list of extents that meets all rules of a plan, and the size and the block of the device that it is for, in
+/// bytes.
 #[derive(Drop)]
 pub struct Plan {
     extents: Vec<Extent>,
     /// The numbers of the extents, by their first bytes.
     index: Vec<u32>,
     size: u64,
+    block: u32,
 }
 
 impl Model for Plan {
@@ -54,34 +59,37 @@ impl Model for Plan {
 
     ghost Value = { Planned };
 
-    ghost view = { λ p. record { extents = p.extents.items; size = p.size } };
+    ghost view = { λ p. record { extents = p.extents.items; size = p.size; block = p.block } };
 
-    ghost invariant = { λ p. IsPlan p.size p.extents.items × All HasBytes p.extents.items × IsIndex p.extents.items p.index.items };
+    ghost invariant = { λ p. IsPlan p.size p.block p.extents.items × All HasBytes p.extents.items × IsIndex p.extents.items p.index.items };
 }
 
 impl Plan {
-    /// Takes the extents in their order, if they are a plan for a device of this size in bytes. Each extent
-    /// is looked at by itself, from the first on; overlaps are looked for after that.
-    pub fn of(alloc: Global, extents: Vec<Extent>, size: u64) -> Result<Plan, PlanFault>
-        ensures plan { IfOk result (λ p. IsPlan size extents.items × (p.extents ≡ extents.items) × (p.size ≡ size)) }
-        ensures fault { IfErr result (λ f. f ≢ PlanFault.Memory → IsFirstFault size extents.items f) }
+    /// Takes the extents in their order, if they are a plan for a device of this size and block in bytes. Each
+    /// extent is looked at from the first on, with the lengths of those before it; overlaps are looked for after
+    /// that.
+    pub fn of(alloc: Global, extents: Vec<Extent>, size: u64, block: u32) -> Result<Plan, PlanFault>
+        requires block { IsBlock block }
+        ensures plan { IfOk result (λ p. IsPlan size block extents.items × (p.extents ≡ extents.items) × (p.size ≡ size) × (p.block ≡ block)) }
+        ensures fault { IfErr result (λ f. f ≢ PlanFault.Memory → IsFirstFault size block extents.items f) }
 
         // Want of memory aside, each plan is taken and each fault is told.
-        ensures taken { IsPlan size extents.items → IsOk result ⊎ (result ≡ Err PlanFault.Memory) }
-        ensures told { (f : PlanFault) → IsFirstFault size extents.items f → (result ≡ Err f) ⊎ (result ≡ Err PlanFault.Memory) }
+        ensures taken { IsPlan size block extents.items → IsOk result ⊎ (result ≡ Err PlanFault.Memory) }
+        ensures told { (f : PlanFault) → IsFirstFault size block extents.items f → (result ≡ Err f) ⊎ (result ≡ Err PlanFault.Memory) }
     {
-        let index = index_of_plan(alloc, &extents, size)?;
+        let index = index_of_plan(alloc, &extents, size, block)?;
         Ok(Plan {
             extents,
             index,
             size,
+            block,
         })
     }
 
     /// The extents by their numbers.
     pub fn extents(&self) -> &[Extent]
         ensures extents { result.now ≡ self.now.extents }
-        ensures plan { IsPlan self.now.size self.now.extents }
+        ensures plan { IsPlan self.now.size self.now.block self.now.extents }
     {
         &self.extents
     }
@@ -91,6 +99,14 @@ impl Plan {
         ensures { result ≡ self.now.size }
     {
         self.size
+    }
+
+    /// The block of the device in bytes.
+    pub fn block(&self) -> u32
+        ensures block { result ≡ self.now.block }
+        ensures is_block { IsBlock result }
+    {
+        self.block
     }
 
     /// The number of the extent that has a byte.
@@ -123,11 +139,17 @@ fn find_in(extents: &[Extent], index: &[u32], at: u64) -> Option<u32>
 }
 
 // The sorted index of extents that are a plan.
-fn index_of_plan(alloc: Global, extents: &[Extent], size: u64) -> Result<Vec<u32>, PlanFault>
-    ensures plan { IfOk result (λ v. IsPlan size extents.now × All HasBytes extents.now × IsIndex extents.now v.items) }
-    ensures fault { IfErr result (λ f. f ≢ PlanFault.Memory → IsFirstFault size extents.now f) }
+fn index_of_plan(
+    alloc: Global,
+    extents: &[Extent],
+    size: u64,
+    block: u32,
+) -> Result<Vec<u32>, PlanFault>
+    requires { IsBlock block }
+    ensures plan { IfOk result (λ v. IsPlan size block extents.now × All HasBytes extents.now × IsIndex extents.now v.items) }
+    ensures fault { IfErr result (λ f. f ≢ PlanFault.Memory → IsFirstFault size block extents.now f) }
 {
-    check_extents(extents, size)?;
+    check_extents(extents, size, block)?;
     let index = sorted_index(alloc, extents)?;
     if !rises(extents, &index) {
         let (later, earlier) = first_overlap(alloc, extents)?;
@@ -136,12 +158,26 @@ fn index_of_plan(alloc: Global, extents: &[Extent], size: u64) -> Result<Vec<u32
     Ok(index)
 }
 
-// What an extent breaks by itself, if anything.
-fn check_extent(size: u64, number: u32, extent: &Extent) -> Result<(), PlanFault>
-    ensures { MatchResult result (λ _. Fits size number extent.now) (Breaks size number extent.now) }
+// What an extent breaks, if anything, where those before it have so many bytes. Else the bytes with its own.
+fn check_extent(
+    extents: &[Extent],
+    number: usize,
+    size: u64,
+    block: u32,
+    before: u64,
+) -> Result<u64, PlanFault>
+    requires block { IsBlock block }
+    requires there { number < length extents.now }
+    requires few { number ≤ MAX_EXTENTS }
+    requires before { before ≡ bytes_in (take number extents.now) }
+    requires small { before ≤ MAX_TOTAL }
+    ensures { MatchResult result
+        (λ total. KeepsRules size block extents.now number × (total ≡ bytes_in (take (number + 1) extents.now)))
+        (Breaks size block extents.now number) }
 {
-    let Extent { at, len, priority } = *extent;
-    if at % SECTOR != 0 || len % SECTOR != 0 || len == 0 {
+    let Extent { at, len, priority } = extents[number];
+    let (number, block) = (number as u32, u64::from(block));
+    if at % block != 0 || len % block != 0 || len == 0 {
         return Err(PlanFault::Sector(number));
     }
     if len > MAX_EXTENT {
@@ -153,19 +189,24 @@ fn check_extent(size: u64, number: u32, extent: &Extent) -> Result<(), PlanFault
     if at > size || len > size - at {
         return Err(PlanFault::PastEnd(number));
     }
-    if priority > 9 {
+    if priority > MAX_PRIORITY {
         return Err(PlanFault::Priority(number));
     }
-    Ok(())
+    if before + len > MAX_TOTAL {
+        return Err(PlanFault::Total(number));
+    }
+    Ok(before + len)
 }
 
-fn check_extents(extents: &[Extent], size: u64) -> Result<(), PlanFault>
+fn check_extents(extents: &[Extent], size: u64, block: u32) -> Result<(), PlanFault>
+    requires { IsBlock block }
     ensures { MatchResult result
-        (λ _. ((k : ℕ) → k < length extents.now → Fits size k (extent_at extents.now k)) × (length extents.now ≤ 65536))
-        (IsOwnFault size extents.now) }
+        (λ _. ((k : ℕ) → k < length extents.now → KeepsRules size block extents.now k) × (length extents.now ≤ MAX_EXTENTS) × (bytes_in extents.now ≤ MAX_TOTAL))
+        (IsOwnFault size block extents.now) }
 {
-    for (i, extent) in extents.iter().enumerate() {
-        check_extent(size, i as u32, extent)?;
+    let mut total = 0;
+    for number in 0..extents.len() {
+        total = check_extent(extents, number, size, block, total)?;
     }
     Ok(())
 }
@@ -200,7 +241,7 @@ fn numbers_below(alloc: Global, count: u32) -> Result<Vec<u32>, AllocError>
 }
 
 fn sorted_index(alloc: Global, extents: &[Extent]) -> Result<Vec<u32>, AllocError>
-    requires { length extents.now ≤ 65536 }
+    requires { length extents.now ≤ MAX_EXTENTS }
     ensures { IfOk result (λ v. IsIndex extents.now v.items) }
 {
     let mut index = numbers_below(alloc, extents.len() as u32)?;
@@ -223,7 +264,7 @@ fn rises(extents: &[Extent], index: &[u32]) -> bool
 }
 
 fn are_apart(alloc: Global, extents: &[Extent]) -> Result<bool, AllocError>
-    requires few { length extents.now ≤ 65536 }
+    requires few { length extents.now ≤ MAX_EXTENTS }
     requires bytes { All HasBytes extents.now }
     ensures { IfOk result (λ b. IsTrue b ↔ AllPairs AreApart extents.now) }
 {
@@ -233,7 +274,7 @@ fn are_apart(alloc: Global, extents: &[Extent]) -> Result<bool, AllocError>
 
 // The first extent that shares a byte with an earlier one, and the first such earlier one.
 fn first_overlap(alloc: Global, extents: &[Extent]) -> Result<(u32, u32), AllocError>
-    requires few { length extents.now ≤ 65536 }
+    requires few { length extents.now ≤ MAX_EXTENTS }
     requires bytes { All HasBytes extents.now }
     requires some { ¬ (AllPairs AreApart extents.now) }
     ensures { IfOk result (λ p. IsFirstOverlap extents.now p.0 p.1) }
@@ -244,7 +285,7 @@ fn first_overlap(alloc: Global, extents: &[Extent]) -> Result<(u32, u32), AllocE
 
 // How many extents from the first on share no byte. All prefixes up to that one are apart, and no longer one is.
 fn first_later(alloc: Global, extents: &[Extent]) -> Result<usize, AllocError>
-    requires few { length extents.now ≤ 65536 }
+    requires few { length extents.now ≤ MAX_EXTENTS }
     requires bytes { All HasBytes extents.now }
     requires some { ¬ (AllPairs AreApart extents.now) }
     ensures { IfOk result
@@ -289,7 +330,10 @@ mod tests {
         alloc: Global,
         rows: &[(u64, u64, u8)],
         size: u64,
-    ) -> Result<Option<PlanFault>, AllocError> {
+        block: u32,
+    ) -> Result<Option<PlanFault>, AllocError>
+        requires { IsBlock block }
+    {
         let mut extents = Vec::new(alloc);
         for (at, len, priority) in rows {
             extents.push(Extent {
@@ -298,35 +342,65 @@ mod tests {
                 priority: *priority,
             })?;
         }
-        Ok(Plan::of(alloc, extents, size).err())
+        Ok(Plan::of(alloc, extents, size, block).err())
     }
 
     #[test]
     fn refusals(rt: HostRuntime) -> Result<(), Fail> {
         let alloc = rt.alloc();
+        let rows: [(&[(u64, u64, u8)], u64, Option<PlanFault>); 6] = [
+            (&[(0, 512, 0), (1024, 512, 9)], 1536, None),
+            (
+                &[(0, 1024, 0), (512, 512, 0)],
+                1024,
+                Some(PlanFault::Overlap(1, 0)),
+            ),
+            (&[(512, 512, 0)], 512, Some(PlanFault::PastEnd(0))),
+            (&[(512, 513, 0)], 512, Some(PlanFault::Sector(0))),
+            (&[(0, 512, 10)], 512, Some(PlanFault::Priority(0))),
+            (
+                &[(0, 67_109_376, 0)],
+                134_217_728,
+                Some(PlanFault::TooLong(0)),
+            ),
+        ];
+        for (extents, size, fault) in rows {
+            assert_eq!(rt; fault_of(alloc, extents, size, 512)?, fault);
+        }
         assert_eq!(rt;
-            fault_of(alloc, &[(0, 512, 0), (1024, 512, 9)], 1536)?,
-            None
-        );
-        assert_eq!(rt;
-            fault_of(alloc, &[(0, 1024, 0), (512, 512, 0)], 1024)?,
-            Some(PlanFault::Overlap(1, 0))
-        );
-        assert_eq!(rt;
-            fault_of(alloc, &[(512, 512, 0)], 512)?,
-            Some(PlanFault::PastEnd(0))
-        );
-        assert_eq!(rt;
-            fault_of(alloc, &[(512, 513, 0)], 512)?,
+            fault_of(alloc, &[(0, 512, 0)], 12_288, 4_096)?,
             Some(PlanFault::Sector(0))
         );
+        assert_eq!(rt; fault_of(alloc, &[(4_096, 8_192, 0)], 12_288, 4_096)?, None);
+        Ok(())
+    }
+
+    // Extents of the greatest length, and one of a length of its own behind them.
+    fn long(alloc: Global, count: u32, len: u64) -> Result<Option<PlanFault>, AllocError>
+        requires { count ≤ 65536 }
+    {
+        let mut extents = Vec::new(alloc);
+        for number in 0..count {
+            extents.push(Extent {
+                at: MAX_EXTENT * u64::from(number),
+                len: MAX_EXTENT,
+                priority: 0,
+            })?;
+        }
+        extents.push(Extent {
+            at: MAX_EXTENT * u64::from(count),
+            len,
+            priority: 0,
+        })?;
+        Ok(Plan::of(alloc, extents, 1 << 44, 4_096).err())
+    }
+
+    #[test]
+    fn totals(rt: HostRuntime) -> Result<(), Fail> {
+        assert_eq!(rt; long(rt.alloc(), 16_383, MAX_EXTENT)?, None);
         assert_eq!(rt;
-            fault_of(alloc, &[(0, 512, 10)], 512)?,
-            Some(PlanFault::Priority(0))
-        );
-        assert_eq!(rt;
-            fault_of(alloc, &[(0, 16_777_728, 0)], 512)?,
-            Some(PlanFault::TooLong(0))
+            long(rt.alloc(), 16_384, 4_096)?,
+            Some(PlanFault::Total(16_384))
         );
         Ok(())
     }
@@ -346,14 +420,14 @@ mod tests {
 
     #[test]
     fn greatest(rt: HostRuntime) -> Result<(), Fail> {
-        let plan = Plan::of(rt.alloc(), falling(rt.alloc(), 65_536)?, 1 << 25)?;
+        let plan = Plan::of(rt.alloc(), falling(rt.alloc(), 65_536)?, 1 << 25, 512)?;
         assert_eq!(rt; plan.extents().len(), 65_536);
         assert_eq!(rt; plan.size(), 1 << 25);
         assert_eq!(rt; plan.find(1023), Some(65_534));
         assert_eq!(rt; plan.find(1 << 25), None);
         let longer = falling(rt.alloc(), 65_537)?;
         assert_eq!(rt;
-            Plan::of(rt.alloc(), longer, 1 << 26).err(),
+            Plan::of(rt.alloc(), longer, 1 << 26, 512).err(),
             Some(PlanFault::TooMany)
         );
         Ok(())
@@ -367,7 +441,7 @@ mod tests {
             len: 1024,
             priority: 0,
         })?;
-        let fault = Plan::of(rt.alloc(), extents, 1 << 25).err();
+        let fault = Plan::of(rt.alloc(), extents, 1 << 25, 512).err();
         assert_eq!(rt; fault, Some(PlanFault::Overlap(65_535, 65_532)));
         Ok(())
     }

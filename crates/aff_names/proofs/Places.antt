@@ -1,12 +1,12 @@
 -- A URN, place by place.
-use Rattle.std.proofs.Common.{◌≡◌, ℕ, zero, suc, ◌+◌, ◌-◌, ◌≤◌, ◌<◌, true, List, [], ◌∷◌, ◌++◌, refl, sym, ap, subst, ◌∙◌, arith, codes, length, eqb-true, eq-eqb, ne_eqb}
-use Rattle.std.specs.Prelude.{◌==◌, Some, slice_get}
+use Rattle.std.proofs.Common.{◌≡◌, ℕ, zero, suc, ◌+◌, ◌-◌, ◌≤◌, ◌<◌, true, false, cond, List, [], ◌∷◌, ◌++◌, refl, sym, ap, subst, ◌∙◌, arith, codes, length, eqb-true, eq-eqb, ne_eqb}
+use Rattle.std.specs.Prelude.{◌==◌, Some, slice_get, slice_index}
 use Rattle.std.proofs.lemmas.Bool.{and_parts, and_from, cond-false}
-use Rattle.aff_spec.specs.Words.{uuid_from, fits_uuid}
+use Rattle.aff_spec.specs.Words.{uuid_from, fits_uuid, is_dash_place, is_hex}
 use Rattle.aff_names.specs.Urn.{HasScheme, IsPath, IsUrn, may_be_at}
 
 -- the places of a uuid are 0 to 35
-uuid_ends : (k : ℕ) (bytes : List ℕ) → uuid_from k bytes ≡ true → k + length bytes ≡ 36
+pub uuid_ends : (k : ℕ) (bytes : List ℕ) → uuid_from k bytes ≡ true → k + length bytes ≡ 36
 uuid_ends k [] h = let e : k ≡ 36 = eqb-true k 36 h in omega arith
 uuid_ends k (b ∷ bytes) h =
     let rest = uuid_ends (k + 1) bytes (and_parts (fits_uuid k b) (uuid_from (k + 1) bytes) h).1 in
@@ -106,3 +106,16 @@ parts_are_good uuid path h p k low high =
 
 pub good_from_urn : (text : List ℕ) → IsUrn text → IsGood text
 good_from_urn text urn = subst IsGood (sym urn.is) (parts_are_good urn.uuid urn.path urn.uuid_is urn.path_is)
+
+-- each byte of a uuid is below 128
+fit_is_ascii : (k b : ℕ) → fits_uuid k b ≡ true → b < 128
+fit_is_ascii k b fits =
+    elim (is_dash_place k) as (λ t. cond t (b == 45) (is_hex b) ≡ true → b < 128) [
+      | true ↦ λ e. grind (arith, e)
+      | false ↦ λ e. grind (arith, e)
+    ] fits
+
+pub uuid_is_ascii : (k : ℕ) (bytes : List ℕ) → uuid_from k bytes ≡ true → (i : ℕ) → slice_index bytes i < 128
+uuid_is_ascii k [] h i = omega arith
+uuid_is_ascii k (b ∷ bytes) h zero = fit_is_ascii k b (and_parts (fits_uuid k b) (uuid_from (k + 1) bytes) h).0
+uuid_is_ascii k (b ∷ bytes) h (suc i) = uuid_is_ascii (k + 1) bytes (and_parts (fits_uuid k b) (uuid_from (k + 1) bytes) h).1 i

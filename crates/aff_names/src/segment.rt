@@ -31,6 +31,13 @@ pub fn segment_name(
     numbered(alloc, stream.text(), number, suffix).map_err(|_| Memory)
 }
 
+/// The name of a segment of an image that has no number: its `map`, or `idx`, the list of the map's targets.
+pub fn named_segment(alloc: Global, image: &Urn, name: &str) -> Result<String, Memory>
+    ensures { IfOk result (λ segment. string_bytes segment ≡ names.segment_in image.now name.now) }
+{
+    named(alloc, image.text(), name).map_err(|_| Memory)
+}
+
 // A text as a folder is named by it.
 fn escaped(alloc: Global, text: &str) -> Result<String, AllocError>
     ensures { IfOk result (λ name. string_bytes name ≡ names.folder_name text.now) }
@@ -49,6 +56,14 @@ fn numbered(alloc: Global, text: &str, number: u32, suffix: &str) -> Result<Stri
     let digits = eight_digits(number);
     let digits = ascii_str(&digits);
     format!(in alloc; "{folder}/{digits}{suffix}")
+}
+
+// A segment in the folder that a text names.
+fn named(alloc: Global, text: &str, name: &str) -> Result<String, AllocError>
+    ensures { IfOk result (λ segment. string_bytes segment ≡ names.segment_in text.now name.now) }
+{
+    let folder = escaped(alloc, text)?;
+    format!(in alloc; "{folder}/{name}")
 }
 
 // Eight decimal digits, with zeros in front.

@@ -1,10 +1,12 @@
 //! A URN.
-ghost use Rattle.std.specs.Prelude.{◌≡◌, ◌≤◌, ◌↔◌, ℕ, Option, true, MatchOption, IfOk, OnOk, IsOkUnless, IsTrue, slice_get};
+ghost use Rattle.std.specs.Prelude.{◌≡◌, ◌≤◌, ◌↔◌, ◌++◌, codes, ℕ, Option, true, MatchOption, IfOk, OnOk, IsOkUnless, IsTrue, slice_get};
 ghost use Rattle.aff_names.specs.Refused.{IsFault};
-ghost use Rattle.aff_names.specs.Urn.{HasScheme, IsFirstBad, IsUrn, may_be_at as spec_may_be_at};
+ghost use Rattle.aff_spec.specs.Names.{image_urn, stream_urn, volume_urn};
+ghost use Rattle.aff_names.specs.Urn.{HasScheme, IsFirstBad, IsPath, IsUrn, may_be_at as spec_may_be_at};
 
-use crate::NameError;
-use std::alloc::Global;
+use crate::{NameError, Uuid};
+use aff_model::Memory;
+use std::alloc::{AllocError, Global};
 use std::marker::Model;
 
 /// The text of a URN.
@@ -43,6 +45,34 @@ impl Urn {
         Ok(Urn { text })
     }
 
+    /// The URN of the volume that a UUID names: `aff4://` and the UUID.
+    pub fn of_volume(alloc: Global, volume: &Uuid) -> Result<Urn, Memory>
+        ensures { IfOk result (λ urn. urn ≡ volume_urn volume.now) }
+    {
+        with_path(alloc, volume, "").map_err(|_| Memory)
+    }
+
+    /// The URN of a volume's stream: the volume's and `/data`.
+    pub fn of_stream(alloc: Global, volume: &Uuid) -> Result<Urn, Memory>
+        ensures { IfOk result (λ urn. urn ≡ stream_urn volume.now) }
+    {
+        with_path(alloc, volume, "/data").map_err(|_| Memory)
+    }
+
+    /// The URN of a volume's image: the volume's and `/image`.
+    pub fn of_image(alloc: Global, volume: &Uuid) -> Result<Urn, Memory>
+        ensures { IfOk result (λ urn. urn ≡ image_urn volume.now) }
+    {
+        with_path(alloc, volume, "/image").map_err(|_| Memory)
+    }
+
+    /// The same URN once more.
+    pub fn try_clone(&self, alloc: Global) -> Result<Urn, Memory>
+        ensures { IfOk result (λ urn. urn ≡ self.now) }
+    {
+        copied(alloc, self).map_err(|_| Memory)
+    }
+
     /// The text as it was read.
     pub fn text(&self) -> &str
         ensures text { result.now ≡ self.now }
@@ -50,6 +80,23 @@ impl Urn {
     {
         self.text.as_str()
     }
+}
+
+// The URN of a volume's part by its path.
+fn with_path(alloc: Global, volume: &Uuid, path: &str) -> Result<Urn, AllocError>
+    requires { IsPath path.now }
+    ensures { IfOk result (λ urn. urn ≡ codes "aff4://" ++ (volume.now ++ path.now)) }
+{
+    let uuid = volume.text();
+    let text = format!(in alloc; "aff4://{uuid}{path}")?;
+    Ok(Urn { text })
+}
+
+fn copied(alloc: Global, urn: &Urn) -> Result<Urn, AllocError>
+    ensures { IfOk result (λ copy. copy ≡ urn.now) }
+{
+    let text = String::from_str(alloc, urn.text.as_str())?;
+    Ok(Urn { text })
 }
 
 // What keeps bytes from being a URN.

@@ -1,6 +1,7 @@
 //! Receipts and peeks of a folder of the file system. They tell nothing of what was appended.
 ghost use Rattle.std.specs.Prelude.{◌≡◌, false, []};
 
+use crate::outcome::counted;
 use crate::receipt::{Peek, PeekFailed, Telling};
 use std::fs::File;
 use std::io;
@@ -9,8 +10,8 @@ use std::marker::Model;
 use std::os::unix::fs::FileExt;
 use std::sync::Arc;
 
-/// Where an append put its bytes: the path of the segment's file, which the receipts of a segment share, their
-/// place in it and their number.
+/// Where an append put its bytes: the path of the segment's file, which the receipts of a segment share, the
+/// offset of the first and their number.
 #[derive(Drop)]
 pub struct FileReceipt {
     path: Arc<String>,
@@ -65,12 +66,7 @@ impl Peek<FileReceipt> for FilePeek {
     ghost peek_faults = { λ faults. faults };
 
     fn fetch(&mut self, receipt: &FileReceipt, out: &mut [u8]) -> Result<(), PeekFailed> {
-        match receipt.read(&self.rt, out) {
-            Ok(()) => Ok(()),
-            Err(_) => {
-                self.faults = self.faults.saturating_add(1);
-                Err(PeekFailed)
-            }
-        }
+        let outcome = receipt.read(&self.rt, out);
+        counted(outcome, PeekFailed, &mut self.faults)
     }
 }

@@ -1,63 +1,76 @@
-//! Standard input and output. They tell nothing of what they hold.
-ghost use Rattle.std.specs.Prelude.{◌≡◌, None};
+//! Standard input and output. What is said of their bytes holds of any reader and writer that tell theirs; the
+//! standard streams tell nothing.
+ghost use Rattle.std.specs.Prelude.{◌≡◌, ◌≤◌, ℕ, length, take, OnOk, IsErr, IsErrOf};
+ghost use Rattle.std.specs.Io.KnownBytes.{Appends};
+ghost use Rattle.aff_model.specs.Causes.{HasCause};
 
+use crate::outcome::counted;
 use crate::text::{Sink, SinkError, Source, SourceFailed};
-use std::io::{Read, Write};
+use crate::write_whole::write_whole;
+use std::io::{Read, Stdin, Stdout, Write};
 
-/// Standard input.
+/// A reader as a source: standard input.
 #[derive(Drop)]
-pub struct InputSource {
-    rt: HostRuntime,
+pub struct InputSource<R = Stdin> {
+    reader: R,
     faults: u64,
 }
 
 impl InputSource {
     pub fn new(rt: HostRuntime) -> InputSource {
-        InputSource { rt, faults: 0 }
+        InputSource::over(rt.stdin())
     }
 }
 
-impl Source for InputSource {
-    ghost left = { λ _. None };
+impl<R: Read> InputSource<R> {
+    pub(crate) fn over(reader: R) -> InputSource<R> {
+        InputSource { reader, faults: 0 }
+    }
+}
+
+impl<R: Read + Drop> Source for InputSource<R> {
+    ghost left = { λ s. R.remaining s.reader };
 
     ghost source_faults = { λ s. s.faults };
 
     fn read(&mut self, out: &mut [u8]) -> Result<usize, SourceFailed> {
-        match self.rt.stdin().read(out) {
-            Ok(count) => Ok(count),
-            Err(_) => {
-                self.faults = self.faults.saturating_add(1);
-                Err(SourceFailed)
-            }
-        }
+        let outcome = self.reader.read(out);
+        counted(outcome, SourceFailed, &mut self.faults)
     }
 }
 
-/// Standard output. It never answers `Memory`.
+/// A writer as a sink: standard output. It never answers `Memory`.
 #[derive(Drop)]
-pub struct OutputSink {
-    rt: HostRuntime,
+pub struct OutputSink<W = Stdout> {
+    writer: W,
     faults: u64,
 }
 
 impl OutputSink {
     pub fn new(rt: HostRuntime) -> OutputSink {
-        OutputSink { rt, faults: 0 }
+        OutputSink::over(rt.stdout())
     }
 }
 
-impl Sink for OutputSink {
-    ghost written = { λ _. None };
+impl<W: Write> OutputSink<W> {
+    pub(crate) fn over(writer: W) -> OutputSink<W> {
+        OutputSink { writer, faults: 0 }
+    }
+}
+
+impl<W: Write + Drop> Sink for OutputSink<W> {
+    ghost written = { λ s. W.contents s.writer };
 
     ghost sink_faults = { λ s. s.faults };
 
-    fn write(&mut self, bytes: &[u8]) -> Result<(), SinkError> {
-        match self.rt.stdout().write_all(bytes) {
-            Ok(()) => Ok(()),
-            Err(_) => {
-                self.faults = self.faults.saturating_add(1);
-                Err(SinkError::Failed)
-            }
-        }
+    fn write(&mut self, bytes: &[u8]) -> Result<(), SinkError>
+        ensures ok { OnOk result (Appends (W.contents self.old.writer) (W.contents self.new.writer) bytes.now) }
+        ensures failed { IsErrOf result SinkError.Failed → (n : ℕ) × (n ≤ length bytes.now)
+            × Appends (W.contents self.old.writer) (W.contents self.new.writer) (take n bytes.now) }
+        ensures never { ¬ (IsErrOf result SinkError.Memory) }
+        ensures cause { HasCause self.old.faults self.new.faults (IsErr result) }
+    {
+        let outcome = write_whole(&mut self.writer, bytes);
+        counted(outcome, SinkError::Failed, &mut self.faults)
     }
 }

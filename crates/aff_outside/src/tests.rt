@@ -1,6 +1,10 @@
 //! What no clause says: what the adapters over files do to a file system.
-use crate::{Device, FileDevice, FileFolder, Folder, FolderError, Peek, PeekFailed, read_segment};
+use crate::{
+    Device, DeviceFailed, FileDevice, FileFolder, Folder, FolderError, InputSource, OutputSink,
+    Peek, PeekFailed, Sink, SinkError, Source, SourceFailed, read_segment,
+};
 use std::alloc::Global;
+use std::fs::{File, OpenOptions};
 use std::test::Fail;
 use std::{env, fs, io, process};
 
@@ -65,16 +69,69 @@ fn a_peek_fetches_what_a_receipt_is_of(rt: HostRuntime) -> Result<(), Fail> {
 }
 
 #[test]
+fn each_call_of_a_folder_that_is_none_fails(rt: HostRuntime) -> Result<(), Fail> {
+    let path = fresh_path(&rt, "aff_outside_file")?;
+    fs::write(&rt, path.as_str(), b"".as_slice())?;
+    let mut folder = FileFolder::at(rt, path.as_str()).map_err(|_| "memory")?;
+    let listed = matches!(folder.list(), Err(FolderError::Failed));
+    let appended = matches!(folder.append("map", &[1]), Err(FolderError::Failed));
+    assert!(rt; listed && appended);
+    let mut byte = [0; 1];
+    assert_eq!(rt;
+        folder.read_at("map", 0, &mut byte),
+        Err(FolderError::Failed)
+    );
+    Ok(fs::remove_file(&rt, path.as_str())?)
+}
+
+#[test]
 fn a_file_is_read_as_a_device(rt: HostRuntime) -> Result<(), Fail> {
     let alloc = rt.alloc();
     let path = fresh_path(&rt, "aff_outside_device")?;
-    assert_eq!(rt; FileDevice::open(&rt, path.as_str()).size(), 0);
+    assert_eq!(rt; FileDevice::open(&rt, path.as_str(), 512).size(), 0);
     let bytes = vec![in alloc; 7; 512]?;
     fs::write(&rt, path.as_str(), bytes.as_slice())?;
-    let mut device = FileDevice::open(&rt, path.as_str());
+    let mut device = FileDevice::open(&rt, path.as_str(), 512);
     assert_eq!(rt; device.size(), 512);
     let mut sector = vec![in alloc; 0; 512]?;
     assert!(rt; device.read_at(0, &mut sector).is_ok());
     assert!(rt; sector == bytes);
     Ok(fs::remove_file(&rt, path.as_str())?)
+}
+
+#[test]
+fn a_device_that_is_cut_short_fails(rt: HostRuntime) -> Result<(), Fail> {
+    let alloc = rt.alloc();
+    let path = fresh_path(&rt, "aff_outside_cut")?;
+    let bytes = vec![in alloc; 7; 12288]?;
+    fs::write(&rt, path.as_str(), bytes.as_slice())?;
+    let mut device = FileDevice::open(&rt, path.as_str(), 4096);
+    assert_eq!(rt; device.block(), 4096);
+    assert_eq!(rt; device.size(), 12288);
+    let file = OpenOptions::new().write(true).open(&rt, path.as_str())?;
+    file.set_len(8704)?;
+    let mut two = vec![in alloc; 0; 8192]?;
+    assert_eq!(rt; device.read_at(0, &mut two), Ok(()));
+    assert!(rt; two.iter().all(|byte| *byte == 7));
+    assert_eq!(rt; device.read_at(4096, &mut two), Err(DeviceFailed));
+    Ok(fs::remove_file(&rt, path.as_str())?)
+}
+
+#[test]
+fn a_folder_as_input_fails(rt: HostRuntime) -> Result<(), Fail> {
+    let folder = env::temp_dir(&rt)?;
+    let mut source = InputSource::over(File::open(&rt, folder.as_str())?);
+    let mut buffer = [0; 8];
+    assert_eq!(rt; source.read(&mut buffer), Err(SourceFailed));
+    Ok(())
+}
+
+#[test]
+fn a_closed_pipe_as_output_fails(rt: HostRuntime) -> Result<(), Fail> {
+    let (reader, writer) = io::pipe(&rt)?;
+    let mut sink = OutputSink::over(writer);
+    assert_eq!(rt; sink.write(b"line"), Ok(()));
+    drop(reader);
+    assert_eq!(rt; sink.write(b"line"), Err(SinkError::Failed));
+    Ok(())
 }

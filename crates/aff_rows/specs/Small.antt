@@ -1,20 +1,30 @@
 -- Small inputs: extents, publications, and a volume of four bytes.
-use Rattle.std.specs.Prelude.{ℕ, ◌+◌, Bool, false, List, [], ◌∷◌, ◌++◌, codes}
+use Rattle.std.specs.Prelude.{ℕ, ◌+◌, false, List, [], ◌∷◌, codes, refl}
+use Rattle.std.proofs.Common.{inl}
 use Rattle.std.specs.List.{range_with_len}
 use Rattle.std.specs.Ordering.{nat_cmp}
 use Rattle.std.specs.Cmp.Lexicographic.{slice_cmp}
 use Rattle.std.specs.FinMap.{from_sorted}
+use Rattle.aff_model.specs.declared.limits.TheConstants.{SECTOR}
 use Rattle.aff_model.specs.declared.extent.Extent.{Extent}
 use Rattle.aff_model.specs.declared.publication.Place.{Place}
 use Rattle.aff_model.specs.declared.publication.Place.TheVariants.{Zero, Chunk, Nothing}
 use Rattle.aff_model.specs.Content.{Content}
 use Rattle.aff_model.specs.Held.{Held}
 use Rattle.aff_model.specs.History.{Published}
-use Rattle.aff_fields.specs.declared.entry.Entry.{Entry}
 
--- a content whose byte at each place is the place and one
+-- a content in blocks of one sector, whose byte at each place is the place and one
 abbrev pub counting : Content
-counting = record { byte = λ i. i + 1; weak = λ s. false; bad = λ s. false; bad_is_weak = λ s h. h }
+counting = record {
+  block = SECTOR;
+  byte = λ i. i + 1;
+  weak = λ s. false;
+  bad = λ s. false;
+  is_block = inl refl;
+  bad_is_weak = λ s h. h;
+  weak_together = λ s t e. refl;
+  bad_together = λ s t e. refl;
+}
 
 -- an extent of priority 0
 abbrev pub extent : ℕ → ℕ → Extent
@@ -31,6 +41,10 @@ one_stored = publication 0 [] (Chunk 0 ∷ []) ∷ []
 -- sectors 01, bad, 03 in one extent
 abbrev pub one_bad : List Published
 one_bad = publication 0 (1 ∷ []) (Chunk 0 ∷ []) ∷ []
+
+-- blocks 01, bad, 03 of eight sectors each, in one extent
+abbrev pub one_bad_block : List Published
+one_bad_block = publication 0 (range_with_len 8 8) (Chunk 0 ∷ []) ∷ []
 
 -- three chunks, the second of which could not be read
 abbrev pub bad_chunk : List Published

@@ -3,7 +3,9 @@ ghost use Rattle.std.specs.Prelude.{◌≡◌, Some, None, [], ◌∷◌, codes}
 ghost use Rattle.std.specs.List.{range_with_len};
 ghost use Rattle.aff_model.specs.declared.publication.Place.TheVariants.{Zero, Chunk, Nothing};
 ghost use Rattle.aff_model.specs.declared.cell.Cell.TheVariants.{Byte, Unreadable, Unknown};
+ghost use Rattle.aff_model.specs.declared.limits.TheConstants.{SECTOR, LARGE_BLOCK};
 ghost use Rattle.aff_model.specs.Cells.{cell_of};
+ghost use Rattle.aff_model.specs.Legal.{blocks_in};
 ghost use Rattle.aff_fields.specs.Entry.{entries_of};
 ghost use Rattle.aff_fields.specs.Point.{point_at};
 ghost use Rattle.aff_spec.specs.Names.{bevvy_name, map_name, stream_urn, image_urn};
@@ -11,7 +13,7 @@ ghost use Rattle.aff_spec.specs.Report.{place_runs, sector_runs, Zeros, Nothings
 ghost use Rattle.aff_spec.specs.Runs.{history_spot, lookup};
 ghost use Rattle.aff_spec.specs.Symbols.{fill_of};
 ghost use Rattle.aff_spec.specs.Volumes.{volume_cell, volume_byte, volume_of};
-ghost use Rattle.aff_rows.specs.Small.{counting, extent, one_stored, one_bad, bad_chunk, two_zeros, urgent_first, uuid, four_bytes};
+ghost use Rattle.aff_rows.specs.Small.{counting, extent, one_stored, one_bad, one_bad_block, bad_chunk, two_zeros, urgent_first, uuid, four_bytes};
 
 /// One sector: its chunk is chunk 0, its bytes are places 0 to 511 of the stream, and nothing else is there.
 pub fn one_sector()
@@ -43,6 +45,18 @@ pub fn one_bad_sector()
     ensures unknown { cell_of counting (extent 0 1536 ∷ []) one_bad 1536 ≡ Unknown }
     ensures letter { fill_of 512 Unreadable ≡ 76 }
     ensures sectors { sector_runs (1 ∷ []) ≡ record { first = 1; count = 1 } ∷ [] }
+{}
+
+/// Blocks 01, bad, 03 of 4,096 bytes: the eight sectors of the second are unreadable together.
+pub fn one_bad_block_of_three()
+    ensures before { history_spot (extent 0 12288 ∷ []) one_bad_block 4095 ≡ Some (0, 4095) }
+    ensures bad { history_spot (extent 0 12288 ∷ []) one_bad_block 4096 ≡ Some (2, 4096) }
+    ensures bad_last { history_spot (extent 0 12288 ∷ []) one_bad_block 8191 ≡ Some (2, 8191) }
+    ensures behind { history_spot (extent 0 12288 ∷ []) one_bad_block 8192 ≡ Some (0, 8192) }
+    ensures unreadable { cell_of counting (extent 0 12288 ∷ []) one_bad_block 8191 ≡ Unreadable }
+    ensures sectors { sector_runs (range_with_len 8 8) ≡ record { first = 8; count = 8 } ∷ [] }
+    ensures one { blocks_in LARGE_BLOCK (range_with_len 8 8) ≡ 1 }
+    ensures eight { blocks_in SECTOR (range_with_len 8 8) ≡ 8 }
 {}
 
 /// A chunk of bad sectors: it is not stored, and the next chunk has the next number.

@@ -8,8 +8,16 @@ use aff_top::{End, run_words};
 use std::alloc::{AllocError, Global};
 use std::test::Fail;
 
-/// The words of a run into a folder from one device.
+/// The words of a run into a folder from one device, at the command that opens it by blocks of 512 bytes.
 pub const WORDS: [&str; 4] = ["acquire", "F", "11111111-2222-4333-8444-555555555555", "D"];
+
+/// As `WORDS`, at the command that opens the device by blocks of 4,096 bytes.
+pub const LARGE_WORDS: [&str; 4] = [
+    "acquire4k",
+    "F",
+    "11111111-2222-4333-8444-555555555555",
+    "D",
+];
 
 pub const STREAM: &str = "aff4%3A%2F%2F11111111-2222-4333-8444-555555555555%2Fdata";
 
@@ -36,11 +44,13 @@ pub fn filled(alloc: Global, count: usize) -> Result<Vec<u8>, AllocError>
     vec![in alloc; 7u8; count]
 }
 
-/// What a run left.
+/// What a run left: its status, what it wrote, what the source still has, the devices and the folder.
 #[derive(Drop)]
 pub struct Ran {
     pub status: u8,
     pub written: Vec<u8>,
+    pub devices: Vec<Box<dyn Device>>,
+    pub source: MemorySource,
     pub folder: MemoryFolder,
 }
 
@@ -63,12 +73,28 @@ pub fn run_over(
 ) -> Result<Ran, AllocError> {
     let mut devices: Vec<Box<dyn Device>> = Vec::new(alloc);
     devices.push(device)?;
+    run_at(alloc, &WORDS, text, devices, faults)
+}
+
+/// Runs at these words over these devices.
+pub fn run_at(
+    alloc: Global,
+    words: &[&str],
+    text: &[u8],
+    devices: Vec<Box<dyn Device>>,
+    faults: Faults,
+) -> Result<Ran, AllocError> {
     let mut source = MemorySource::new(text.to_vec(alloc)?, vec![in alloc; faults.source]?);
     let mut sink = MemorySink::new(alloc, vec![in alloc; faults.sink]?);
     let folder = MemoryFolder::new(alloc, vec![in alloc; faults.folder]?, Vec::new(alloc));
-    let End { status, folder, .. } = run_words::<Untold, _, _, _, _>(
+    let End {
+        status,
+        devices,
+        folder,
+        ..
+    } = run_words::<Untold, _, _, _, _>(
         alloc,
-        &WORDS,
+        words,
         devices,
         Vec::new(alloc),
         folder,
@@ -80,6 +106,8 @@ pub fn run_over(
     Ok(Ran {
         status,
         written,
+        devices,
+        source,
         folder,
     })
 }

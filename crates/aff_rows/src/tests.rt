@@ -1,5 +1,4 @@
 use crate::fixture::{Faults, IMAGE, NONE, STREAM, card, is_missing, run, segment};
-use aff_memory::FixedDevice;
 use std::alloc::Global;
 use std::test::Fail;
 
@@ -136,20 +135,5 @@ fn faults_of_the_folder(rt: HostRuntime) -> Result<(), Fail> {
         assert_eq!(rt; ran.status, 6);
         assert_eq!(rt; ran.written.as_slice(), b"error folder\n".as_slice());
     }
-    Ok(())
-}
-
-#[test]
-fn refused_devices(rt: HostRuntime) -> Result<(), Fail> {
-    let alloc = rt.alloc();
-    let ragged = FixedDevice::new(vec![in alloc; 1u8; 513]?, Vec::new(alloc));
-    let ran = run(alloc, b"extent 0 512 0\n", ragged, NONE)?;
-    assert_eq!(rt; ran.status, 10);
-    assert_eq!(rt;
-        ran.written.as_slice(),
-        b"error devices unbuilt\n".as_slice()
-    );
-    let nothing = FixedDevice::new(Vec::new(alloc), Vec::new(alloc));
-    assert_eq!(rt; run(alloc, b"", nothing, NONE)?.status, 10);
     Ok(())
 }

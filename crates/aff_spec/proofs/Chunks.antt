@@ -10,7 +10,6 @@ use Rattle.aff_model.specs.declared.publication.Place.{Place}
 use Rattle.aff_model.specs.declared.publication.Place.TheVariants.{Zero, Chunk, Nothing}
 use Rattle.aff_model.specs.Legal.{numbers_of}
 use Rattle.aff_spec.specs.Chunks.{padded, chunk_at, chunks_from}
-use Rattle.aff_spec.specs.Reads.{Taken, pieces_of, all_pieces}
 
 pub length-padded : (bytes : List ℕ) → length bytes ≤ 32768 → length (padded bytes) ≡ 32768
 unfolding padded
@@ -40,9 +39,6 @@ length-chunks_from bytes j (Zero ∷ places) = length-chunks_from bytes (suc j) 
 length-chunks_from bytes j (Nothing ∷ places) = length-chunks_from bytes (suc j) places
 length-chunks_from bytes j (Chunk c ∷ places) = ap suc (length-chunks_from bytes (suc j) places)
 
-pub length-pieces_of : (t : Taken) → length (pieces_of t) ≡ length (numbers_of t.places)
-length-pieces_of t = length-chunks_from t.bytes 0 t.places
-
 -- some chunks and those behind them
 pub chunks_from-append : (bytes : List ℕ) (j n : ℕ) (xs ys : List Place) → n ≡ j + length xs → chunks_from bytes j (xs ++ ys) ≡ chunks_from bytes j xs ++ chunks_from bytes n ys
 chunks_from-append bytes j n [] ys at = ap (λ k. chunks_from bytes k ys) (omega (arith, at))
@@ -59,22 +55,6 @@ numbers_of-append (Chunk c ∷ xs) ys = ap (λ v. c ∷ v) (numbers_of-append xs
 -- pieces of the length of a chunk
 unfoldable pub AreChunks : List (List ℕ) → Type 0
 AreChunks pieces = AllByRecursion (λ piece. length piece ≡ 32768) pieces
-
-all_append : (xs ys : List (List ℕ)) → AllByRecursion (λ piece. length piece ≡ 32768) xs → AllByRecursion (λ piece. length piece ≡ 32768) ys
-    → AllByRecursion (λ piece. length piece ≡ 32768) (xs ++ ys)
-all_append [] ys a b = b
-all_append (x ∷ xs) ys a b = (a.0, all_append xs ys a.1 b)
-
-all_chunks_from : (bytes : List ℕ) (j : ℕ) (places : List Place) → AllByRecursion (λ piece. length piece ≡ 32768) (chunks_from bytes j places)
-all_chunks_from bytes j [] = tt
-all_chunks_from bytes j (Zero ∷ places) = all_chunks_from bytes (suc j) places
-all_chunks_from bytes j (Nothing ∷ places) = all_chunks_from bytes (suc j) places
-all_chunks_from bytes j (Chunk c ∷ places) = (length-chunk_at bytes j, all_chunks_from bytes (suc j) places)
-
-pub AreChunks-all_pieces : (taken : List Taken) → AreChunks (all_pieces taken)
-unfolding AreChunks
-AreChunks-all_pieces [] = tt
-AreChunks-all_pieces (t ∷ taken) = all_append (pieces_of t) (all_pieces taken) (all_chunks_from t.bytes 0 t.places) (AreChunks-all_pieces taken)
 
 -- chunk k of pieces that stand one after another
 pub chunk_of_concat : (pieces : List (List ℕ)) (k : ℕ) → AreChunks pieces → k < length pieces → take 32768 (drop (32768 * k) (concat pieces)) ≡ get_or pieces k []

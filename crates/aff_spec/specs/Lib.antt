@@ -6,9 +6,7 @@ pub mod Chunks
 pub mod Digests
 pub mod NameLaws
 pub mod Names
-pub mod Outcomes
 pub mod PlanText
-pub mod Reads
 pub mod Report
 pub mod Runs
 pub mod Streams

@@ -96,10 +96,10 @@ same_plan (x ∷ xs) (y ∷ ys) p q e =
     λ i. first i ∷ same_plan xs ys p.1 q.1 both.1 i
 
 -- the extents of a plan have numbers that fit
-pub plan_fits : (size : ℕ) (extents : List Extent) → size < 2 ^ 64 → IsPlan size extents → AllByRecursion FitsExtent extents
-plan_fits size extents small plan = recursion_from_All FitsExtent extents (λ k d below. fits (get_or extents k d) (plan.each k d below))
+pub plan_fits : (size block : ℕ) (extents : List Extent) → size < 2 ^ 64 → IsPlan size block extents → AllByRecursion FitsExtent extents
+plan_fits size block extents small plan = recursion_from_All FitsExtent extents (λ k d below. fits (get_or extents k d) (plan.each k d below))
   where
-    fits : (e : Extent) → IsExtent size e → FitsExtent e
+    fits : (e : Extent) → IsExtent size block e → FitsExtent e
     fits e good = record { at = omega (arith, good.inside, small); len = omega (arith, good.inside, small); priority = omega (arith, good.priority) }
 
 -- what is left begins with a line

@@ -1,3 +1,2 @@
-pub mod Output
-pub mod Pieces
-pub mod Statuses
+pub mod Outcomes
+pub mod Stored

@@ -6,12 +6,25 @@ use aff_model::Memory as NoMemory;
 use aff_outside::FolderError;
 use std::alloc::{AllocError, AllocFailed};
 
+/// Why the devices that were handed in are refused.
+#[derive(Clone, Copy, Debug, PartialEq, Eq)]
+pub enum Refusal {
+    /// There is none.
+    Missing,
+    /// There are two or more.
+    Several,
+    /// The device's block has this number of bytes, which is neither 512 nor 4,096.
+    Block(u32),
+    /// The device has this number of bytes: 0, no whole blocks, or more than 2^44.
+    Size(u64),
+}
+
 /// The first fault of a run, in the order in which a run goes: the words, the devices that were handed in,
 /// the source, its text, the folder. `Memory` can come anywhere.
 #[derive(Clone, Copy, Debug, PartialEq, Eq)]
 pub enum Fault {
     Usage,
-    Devices,
+    Devices(Refusal),
     Source,
     Text,
     Folder,

@@ -1,20 +1,17 @@
-//! The top call: what the words of a command line ask for, over what is handed in.
+//! The top call: what the words of a command line ask for, over what is handed in. One worker reads the extents of the
+//! plan in its order; `specs/Outcomes` has the table of how a run may end.
 #![tactic(auto)]
 
 mod acquire;
-mod buffers;
-mod chunk;
-mod device;
+mod devices;
 mod extents;
 mod fault;
 mod line;
-mod pieces;
-mod places;
 mod plan;
 mod run;
 mod segments;
 mod source;
-mod stream;
+mod tell;
 mod wanted;
 mod words;
 

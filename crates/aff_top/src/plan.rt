@@ -3,6 +3,7 @@ ghost use Rattle.std.specs.Prelude.{◌≡◌, ◌≢◌, ◌⊎◌, ◌≤◌, 
 ghost use Rattle.std.specs.List.{AllByRecursion};
 ghost use Rattle.aff_model.specs.declared.extent.Extent.{Extent};
 ghost use Rattle.aff_model.specs.Causes.{HasCause};
+ghost use Rattle.aff_model.specs.Content.{IsBlock};
 ghost use Rattle.aff_model.specs.Plan.{IsPlan};
 ghost use Rattle.aff_spec.specs.PlanText.{FitsExtent, plan_text, IsPlanText, IsRefusedText};
 ghost use Rattle.std.specs.Io.KnownBytes.{IsAtEnd};
@@ -47,28 +48,35 @@ fn fault_of(fault: PlanFault) -> Fault
     }
 }
 
-/// The plan of a text, over a device of a size.
-fn plan_of(alloc: Global, text: &[u8], size: u64) -> Result<Plan, Fault>
-    requires short { length text.now ≤ 16777216 }
-    ensures plan { IfOk result (λ p. IsPlanText size p.extents text.now × (p.size ≡ size)) }
-    ensures refused { IsErrOf result Fault.Text → IsRefusedText size text.now }
+/// The plan of a text, over a device of a size and a block in bytes.
+fn plan_of(alloc: Global, text: &[u8], size: u64, block: u32) -> Result<Plan, Fault>
+    requires short { length text.now ≤ MAX_TEXT }
+    requires block { IsBlock block }
+    ensures plan { IfOk result (λ p. IsPlanText size block p.extents text.now × (p.size ≡ size) × (p.block ≡ block)) }
+    ensures refused { IsErrOf result Fault.Text → IsRefusedText size block text.now }
     ensures fault { IfErr result (λ e. (e ≡ Fault.Text) ⊎ (e ≡ Fault.Memory)) }
 {
     let Some(extents) = read_extents(alloc, text)? else {
         return Err(Fault::Text);
     };
-    match Plan::of(alloc, extents, size) {
+    match Plan::of(alloc, extents, size, block) {
         Ok(plan) => Ok(plan),
         Err(fault) => Err(fault_of(fault)),
     }
 }
 
-/// The plan that is all the text of a source, over a device of a size.
-pub fn read_plan<S: Source>(alloc: Global, source: &mut S, size: u64) -> Result<Plan, Fault>
-    ensures plan { IfOk result (λ p. IsPlan size p.extents × (p.size ≡ size)) }
-    ensures text { IfOk result (λ p. IfSome (S.left source.old) (IsPlanText size p.extents)) }
+/// The plan that is all the text of a source, over a device of a size and a block in bytes.
+pub fn read_plan<S: Source>(
+    alloc: Global,
+    source: &mut S,
+    size: u64,
+    block: u32,
+) -> Result<Plan, Fault>
+    requires block { IsBlock block }
+    ensures plan { IfOk result (λ p. IsPlan size block p.extents × (p.size ≡ size) × (p.block ≡ block)) }
+    ensures text { IfOk result (λ p. IfSome (S.left source.old) (IsPlanText size block p.extents)) }
     ensures whole { IfOk result (λ _. IsAtEnd (S.left source.new)) }
-    ensures refused { IsErrOf result Fault.Text → IfSome (S.left source.old) (IsRefusedText size) }
+    ensures refused { IsErrOf result Fault.Text → IfSome (S.left source.old) (IsRefusedText size block) }
     ensures cause { HasCause (S.source_faults source.old) (S.source_faults source.new) (IsErrOf result Fault.Source) }
     ensures fault { IfErr result (λ e. (e ≡ Fault.Source) ⊎ (e ≡ Fault.Memory) ⊎ (e ≡ Fault.Text)) }
 {
@@ -76,5 +84,5 @@ pub fn read_plan<S: Source>(alloc: Global, source: &mut S, size: u64) -> Result<
     if text.len() > MAX_TEXT {
         return Err(Fault::Text);
     }
-    plan_of(alloc, &text, size)
+    plan_of(alloc, &text, size, block)
 }

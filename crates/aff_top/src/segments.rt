@@ -1,5 +1,5 @@
 //! The segments of a volume behind its stream, and their names.
-ghost use Rattle.std.specs.Prelude.{◌≡◌, ◌⊎◌, [], ◌∷◌, true, IfOk, IfErr, OnOk, OnErr, IsErrOf, IsTrue};
+ghost use Rattle.std.specs.Prelude.{◌≡◌, ◌⊎◌, [], ◌∷◌, IfOk, IfErr, OnOk, OnErr, IsErrOf, IsTrue};
 ghost use Rattle.std.specs.String.{string_bytes};
 ghost use Rattle.std.specs.List.{flat_map};
 ghost use Rattle.aff_model.specs.Causes.{HasCause};
@@ -8,35 +8,20 @@ ghost use Rattle.aff_spec.specs.Acquired.{map_appends};
 ghost use Rattle.aff_spec.specs.Appends.{applied, Reaches};
 ghost use Rattle.aff_spec.specs.Names.{map_name, idx_name, stream_urn, image_urn};
 ghost use Rattle.aff_spec.specs.Volumes.{targets_text};
-ghost use Rattle.aff_spec.specs.Words.{is_uuid};
 
 use crate::fault::{Fault, fault_of_folder};
 use aff_fields::{Entry, write_entries};
+use aff_names::{Urn, Uuid, named_segment};
 use aff_outside::Folder;
 use std::alloc::{AllocError, Global};
 use std::marker::Model;
 
-#[tactic(auto, using(aff_spec::proofs::Names::map_name_is))]
-fn name_of_map(alloc: Global, uuid: &str) -> Result<String, AllocError>
-    requires { is_uuid uuid.now ≡ true }
-    ensures { IfOk result (λ name. string_bytes name ≡ map_name (image_urn uuid.now)) }
-{
-    format!(in alloc; "aff4%3A%2F%2F{uuid}%2Fimage/map")
-}
-
-#[tactic(auto, using(aff_spec::proofs::Names::idx_name_is))]
-fn name_of_targets(alloc: Global, uuid: &str) -> Result<String, AllocError>
-    requires { is_uuid uuid.now ≡ true }
-    ensures { IfOk result (λ name. string_bytes name ≡ idx_name (image_urn uuid.now)) }
-{
-    format!(in alloc; "aff4%3A%2F%2F{uuid}%2Fimage/idx")
-}
-
-fn targets(alloc: Global, uuid: &str) -> Result<String, AllocError>
-    ensures { IfOk result (λ text. string_bytes text ≡ targets_text (stream_urn uuid.now)) }
+// The text of the targets: the stream, and the symbolic streams of zeros and of unreadable data.
+fn targets(alloc: Global, stream: &str) -> Result<String, AllocError>
+    ensures { IfOk result (λ text. string_bytes text ≡ targets_text stream.now) }
 {
     format!(in alloc;
-        "aff4://{uuid}/data\nhttp://aff4.org/Schema#Zero\nhttp://aff4.org/Schema#UnreadableData\n"
+        "{stream}\nhttp://aff4.org/Schema#Zero\nhttp://aff4.org/Schema#UnreadableData\n"
     )
 }
 
@@ -82,24 +67,25 @@ impl Pending {
 }
 
 /// The map with these entries.
-fn map(alloc: Global, uuid: &str, entries: &[Entry]) -> Result<Pending, Fault>
-    requires { is_uuid uuid.now ≡ true }
+fn map(alloc: Global, uuid: &Uuid, entries: &[Entry]) -> Result<Pending, Fault>
     ensures ok { IfOk result (λ a. a ≡ (map_name (image_urn uuid.now), flat_map entry_bytes entries.now)) }
     ensures fault { IfErr result (λ e. e ≡ Fault.Memory) }
 {
-    let name = name_of_map(alloc, uuid)?;
+    let image = Urn::of_image(alloc, uuid)?;
+    let name = named_segment(alloc, &image, "map")?;
     let bytes = write_entries(alloc, entries)?;
     Ok(Pending { name, bytes })
 }
 
 /// The list of targets.
-fn idx(alloc: Global, uuid: &str) -> Result<Pending, Fault>
-    requires { is_uuid uuid.now ≡ true }
+fn idx(alloc: Global, uuid: &Uuid) -> Result<Pending, Fault>
     ensures ok { IfOk result (λ a. a ≡ (idx_name (image_urn uuid.now), targets_text (stream_urn uuid.now))) }
     ensures fault { IfErr result (λ e. e ≡ Fault.Memory) }
 {
-    let name = name_of_targets(alloc, uuid)?;
-    let bytes = targets(alloc, uuid)?.into_bytes();
+    let image = Urn::of_image(alloc, uuid)?;
+    let name = named_segment(alloc, &image, "idx")?;
+    let stream = Urn::of_stream(alloc, uuid)?;
+    let bytes = targets(alloc, stream.text())?.into_bytes();
     Ok(Pending { name, bytes })
 }
 
@@ -107,10 +93,9 @@ fn idx(alloc: Global, uuid: &str) -> Result<Pending, Fault>
 pub fn append_map<F: Folder>(
     alloc: Global,
     folder: &mut F,
-    uuid: &str,
+    uuid: &Uuid,
     entries: &[Entry],
 ) -> Result<(), Fault>
-    requires { is_uuid uuid.now ≡ true }
     ensures ok { OnOk result (IsTrue F.tells → F.held folder.new ≡ applied (F.held folder.old) (map_appends uuid.now entries.now)) }
     ensures part { OnErr result (IsTrue F.tells → Reaches (F.held folder.old) (map_appends uuid.now entries.now) (F.held folder.new)) }
     ensures cause { HasCause (F.folder_faults folder.old) (F.folder_faults folder.new) (IsErrOf result Fault.Folder) }

@@ -1,47 +1,40 @@
 //! The words of a command line.
-ghost use Rattle.std.specs.Prelude.{◌≡◌, map, IfSome, IfNone};
-ghost use Rattle.aff_spec.specs.Words.{IsAcquire, is_hex, fits_uuid, is_uuid, uuid_of};
+ghost use Rattle.std.specs.Prelude.{◌≡◌, ℕ, true, map, IfSome, IfNone};
+ghost use Rattle.aff_spec.specs.Words.{IsAcquire, IsCommand, is_uuid, uuid_of};
 
-fn is_hex_digit(b: u8) -> bool
-    ensures { result ≡ is_hex b }
-{
-    matches!(b, b'0'..=b'9' | b'A'..=b'F' | b'a'..=b'f')
-}
+use aff_model::{LARGE_BLOCK, SECTOR};
+use aff_names::Uuid;
 
-/// Whether a byte may stand at a place of a uuid.
-fn may_stand(k: usize, b: u8) -> bool
-    ensures { result ≡ fits_uuid k b }
+// The bytes of a block by which a command acquires.
+fn block_of(command: &str) -> Option<u32>
+    ensures some { IfSome result (λ block. IsCommand block command.now) }
+    ensures none { IfNone result ((block : ℕ) → ¬ (IsCommand block command.now)) }
 {
-    if k == 8 || k == 13 || k == 18 || k == 23 {
-        b == b'-'
+    if command == "acquire" {
+        Some(SECTOR as u32)
+    } else if command == "acquire4k" {
+        Some(LARGE_BLOCK as u32)
     } else {
-        is_hex_digit(b)
+        None
     }
 }
 
-/// Whether a text is a uuid.
-fn is_uuid_text(text: &[u8]) -> bool
-    ensures { result ≡ is_uuid text.now }
-{
-    for (k, b) in text.iter().enumerate() {
-        if !may_stand(k, *b) {
-            return false;
-        }
-    }
-    text.len() == 36
-}
-
-/// The uuid of `acquire FOLDER UUID DEVICE`.
-pub fn acquire_uuid<'a>(words: &[&'a str]) -> Option<&'a str>
-    ensures some { IfSome result (λ uuid. IsAcquire (map (λ w. w.now) words.now) × (uuid.now ≡ uuid_of (map (λ w. w.now) words.now))) }
-    ensures none { IfNone result (¬ (IsAcquire (map (λ w. w.now) words.now))) }
+/// The block, in bytes, and the UUID of `acquire FOLDER UUID DEVICE` or `acquire4k FOLDER UUID DEVICE`. It takes no
+/// memory.
+pub fn acquisition(words: &[&str]) -> Option<(u32, Uuid)>
+    ensures some { IfSome result (λ a. IsAcquire a.0 (map (λ w. w.now) words.now) × (a.1 ≡ uuid_of (map (λ w. w.now) words.now))) }
+    ensures none { IfNone result ((block : ℕ) → ¬ (IsAcquire block (map (λ w. w.now) words.now))) }
 {
     match words {
-        [command, folder, uuid, device]
-            if *command == "acquire"
-                && is_uuid_text(uuid.as_bytes())
-                && !folder.is_empty()
-                && !device.is_empty() => { Some(*uuid) }
+        [command, folder, uuid, device] if !folder.is_empty() && !device.is_empty() => {
+            let Some(block) = block_of(command) else {
+                return None;
+            };
+            let Some(uuid) = Uuid::read(uuid) else {
+                return None;
+            };
+            Some((block, uuid))
+        }
         _ => None,
     }
 }

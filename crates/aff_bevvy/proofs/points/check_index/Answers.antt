@@ -16,4 +16,4 @@ returns-clause-fault g c = λ t.
     let count : length c.deref.result.now ≡ chunks_in (chunk_count c.args.size) c.args.bevvy =
     ap length c.deref.ensures.value ∙ c.in-Ok.ensures.count ∙ c.chunks_in-count.ensures ∙ ap (λ n. chunks_in n c.args.bevvy) c.count_chunks.ensures in
     fault_from (g.F.Folder.held c.args.folder.now) c.args.stream.now c.args.size c.args.bevvy c.args.len c.deref.result.now
-    (c.deref.ensures.value ∙ c.in-Ok.ensures.points t) count (c.requires.room t) c.in-Err.fault c.in-Err.ensures.fault
+    (c.deref.ensures.value ∙ c.in-Ok.ensures.points t) count (c.requires.room t) c.in-Err-check_points.fault c.in-Err-check_points.ensures.fault

@@ -1,7 +1,7 @@
 use Rattle.std.proofs.Common.{arith, subst, sym, length, get_or, List, ℕ, ◌+◌, ◌-◌, ◌≡◌, ◌≢◌, ◌∙◌}
 use Rattle.std.proofs.lemmas.Bool.{false≢true}
 use Rattle.aff_model.specs.declared.cell.Run.{Run}
-use Rattle.aff_core.specs.Kinds.{AreGreatest}
+use Rattle.aff_model.specs.Kinds.{AreGreatest}
 use Rattle.aff_core.proofs.RunLists.{grown, greatest-push, nothing, other-last}
 use Rattle.aff_core.proofs.runs.add_run.Goals as goal
 use Rattle.aff_core.proofs.runs.add_run.Goals.{else-count-gt0-via-then-count-gt0+else-is_kind, else-count-gt0-via-else-count-gt0}

@@ -2,6 +2,7 @@ use Rattle.std.proofs.Common.{◌≡◌, List, length, get_or, map, sym, subst, 
 use Rattle.aff_model.specs.History.{publication_of}
 use Rattle.aff_fields.specs.declared.entry.Entry.{Entry}
 use Rattle.aff_model.specs.Pieces.{published}
+use Rattle.aff_model.proofs.Sectors.{sector_plan}
 use Rattle.aff_map.proofs.InOrder.{piece_at}
 use Rattle.aff_map.proofs.Spots.{AreTurns-read, IsMapOf, IsMapOf-inside, IsMapOf-more, IsMapOf-none, IsMapOf-runs, turn_extent, turn_in_range, turn_mappable}
 use Rattle.aff_map.proofs.entries.runs_of.Goals as goal
@@ -26,18 +27,18 @@ offset_bounds-pieces-turn g c =
 pub push_piece-requires-clause-whole : goal.push_piece-requires-clause-whole
 push_piece-requires-clause-whole g c =
     let are = AreTurns-read c.args.plan.now.extents _ (map published c.args.pieces.now) _ _ c.in_ok-turns.ensures c.extents.ensures.extents c.deref-turn-items.ensures.value in
-    let extent = turn_extent c.args.plan.now.size c.args.plan.now.extents (map published c.args.pieces.now) (get_or c.deref-turn-items.result.now c.loop-turn.turn-index (record { extent = record { at = 0; len = 0; priority = 0 }; number = 0 })) c.extents.ensures.plan (are.each c.loop-turn.turn-index _ c.loop-turn-test.true) in
+    let extent = turn_extent c.args.plan.now.size c.args.plan.now.extents (map published c.args.pieces.now) (get_or c.deref-turn-items.result.now c.loop-turn.turn-index (record { extent = record { at = 0; len = 0; priority = 0 }; number = 0 })) (sector_plan _ _ _ c.extents.ensures.plan) (are.each c.loop-turn.turn-index _ c.loop-turn-test.true) in
     (extent.at_whole, extent.len_whole)
 
 pub push_piece-requires-clause-short : goal.push_piece-requires-clause-short
 push_piece-requires-clause-short g c =
     let are = AreTurns-read c.args.plan.now.extents _ (map published c.args.pieces.now) _ _ c.in_ok-turns.ensures c.extents.ensures.extents c.deref-turn-items.ensures.value in
-    (turn_extent c.args.plan.now.size c.args.plan.now.extents (map published c.args.pieces.now) (get_or c.deref-turn-items.result.now c.loop-turn.turn-index (record { extent = record { at = 0; len = 0; priority = 0 }; number = 0 })) c.extents.ensures.plan (are.each c.loop-turn.turn-index _ c.loop-turn-test.true)).short
+    (turn_extent c.args.plan.now.size c.args.plan.now.extents (map published c.args.pieces.now) (get_or c.deref-turn-items.result.now c.loop-turn.turn-index (record { extent = record { at = 0; len = 0; priority = 0 }; number = 0 })) (sector_plan _ _ _ c.extents.ensures.plan) (are.each c.loop-turn.turn-index _ c.loop-turn-test.true)).short
 
 pub push_piece-requires-clause-fits : goal.push_piece-requires-clause-fits
 push_piece-requires-clause-fits g c =
     let are = AreTurns-read c.args.plan.now.extents _ (map published c.args.pieces.now) _ _ c.in_ok-turns.ensures c.extents.ensures.extents c.deref-turn-items.ensures.value in
-    let inside = (turn_extent c.args.plan.now.size c.args.plan.now.extents (map published c.args.pieces.now) (get_or c.deref-turn-items.result.now c.loop-turn.turn-index (record { extent = record { at = 0; len = 0; priority = 0 }; number = 0 })) c.extents.ensures.plan (are.each c.loop-turn.turn-index _ c.loop-turn-test.true)).inside in
+    let inside = (turn_extent c.args.plan.now.size c.args.plan.now.extents (map published c.args.pieces.now) (get_or c.deref-turn-items.result.now c.loop-turn.turn-index (record { extent = record { at = 0; len = 0; priority = 0 }; number = 0 })) (sector_plan _ _ _ c.extents.ensures.plan) (are.each c.loop-turn.turn-index _ c.loop-turn-test.true)).inside in
     omega (arith, inside, c.size-size.ensures, c.size-size.type_inv)
 
 pub push_piece-requires-clause-mappable : goal.push_piece-requires-clause-mappable
@@ -61,11 +62,11 @@ returns-clause-runs g c =
     let are = AreTurns-read c.args.plan.now.extents _ (map published c.args.pieces.now) _ _ c.in_ok-turns.ensures c.extents.ensures.extents c.deref-turn-items.ensures.value in
     let ended : c.loop-turn.turn-index ≡ length c.deref-turn-items.result.now = omega arith in
     let map_of = subst (λ k. IsMapOf c.args.plan.now.extents (map published c.args.pieces.now) c.deref-turn-items.result.now k c.loop-turn.entries.items) ended c.loop-turn.invariant in
-    IsMapOf-runs c.args.plan.now.size c.args.plan.now.extents (map published c.args.pieces.now) c.deref-turn-items.result.now c.loop-turn.entries.items c.extents.ensures.plan are map_of
+    IsMapOf-runs c.args.plan.now.size c.args.plan.now.extents (map published c.args.pieces.now) c.deref-turn-items.result.now c.loop-turn.entries.items (sector_plan _ _ _ c.extents.ensures.plan) are map_of
 
 pub returns-clause-inside : goal.returns-clause-inside
 returns-clause-inside g c =
     let are = AreTurns-read c.args.plan.now.extents _ (map published c.args.pieces.now) _ _ c.in_ok-turns.ensures c.extents.ensures.extents c.deref-turn-items.ensures.value in
     let ended : c.loop-turn.turn-index ≡ length c.deref-turn-items.result.now = omega arith in
     let map_of = subst (λ k. IsMapOf c.args.plan.now.extents (map published c.args.pieces.now) c.deref-turn-items.result.now k c.loop-turn.entries.items) ended c.loop-turn.invariant in
-    IsMapOf-inside c.args.plan.now.size c.args.plan.now.extents (map published c.args.pieces.now) c.deref-turn-items.result.now c.loop-turn.entries.items c.extents.ensures.plan are map_of
+    IsMapOf-inside c.args.plan.now.size c.args.plan.now.extents (map published c.args.pieces.now) c.deref-turn-items.result.now c.loop-turn.entries.items (sector_plan _ _ _ c.extents.ensures.plan) are map_of

@@ -1,17 +1,16 @@
 use Rattle.std.proofs.Common.{◌≡◌, ℕ, List, [], ◌∷◌, codes, refl, ap, ◌∙◌}
-use Rattle.std.specs.Prelude.{Option, Some, None, unwrap_or, slice_get}
+use Rattle.std.specs.Prelude.{Option, Some, unwrap_or, slice_get}
 use Rattle.std.specs.Option.{option_map, option_and_then}
 use Rattle.std.specs.Ordering.{nat_cmp}
 use Rattle.std.specs.Cmp.Lexicographic.{slice_cmp}
 use Rattle.std.specs.FinMap.{get-from_sorted}
-use Rattle.aff_model.specs.declared.cell.Cell.{Cell}
 use Rattle.aff_model.specs.declared.cell.Cell.TheVariants.{Byte}
 use Rattle.aff_model.specs.Held.{bytes_of}
 use Rattle.aff_fields.specs.Entry.{entries_of}
 use Rattle.aff_fields.specs.Point.{point_at}
 use Rattle.aff_spec.specs.Names.{bevvy_name, index_name, map_name, idx_name, stream_urn, image_urn}
 use Rattle.aff_spec.specs.Runs.{lookup}
-use Rattle.aff_spec.specs.Streams.{part_of, stream_byte}
+use Rattle.aff_spec.specs.Streams.{part_of}
 use Rattle.aff_spec.specs.Volumes.{spot_cell, spot_byte, target_cell, target_byte, lines_of, volume_of}
 use Rattle.aff_rows.specs.Small.{four_bytes, four_bytes_segments, uuid}
 use Rattle.aff_rows.proofs.cases.a_volume_of_four_bytes.Goals as goal

@@ -5,7 +5,7 @@ use Rattle.aff_spec.specs.Report.{report_text}
 use Rattle.aff_top.proofs.acquire.finish.Goals as goal
 
 pub returns-clause-report : goal.returns-clause-report
-returns-clause-report c =
+returns-clause-report g c =
     let history = map published c.args.pieces.now in
     let text = string_bytes c.in_ok-report.report in
     subst (λ n. text ≡ report_text c.args.uuid.now n (length c.args.plan.now.extents) history) c.size.ensures

@@ -14,10 +14,10 @@ returns-in-Err c = record {
   refused = λ is extents h.
       let text : c.args.text.now ≡ plan_text c.in-Some.extents.items = subst (λ o. IfSome o (λ v. c.args.text.now ≡ plan_text v.items)) c.in-Some.is c.in_ok-extents.ensures.some in
       let fit : AllByRecursion FitsExtent c.in-Some.extents.items = subst (λ o. IfSome o (λ v. AllByRecursion FitsExtent v.items)) c.in-Some.is c.in_ok-extents.ensures.fit in
-      let same = same_plan extents c.in-Some.extents.items (plan_fits c.args.size extents c.ranges.size.fits h.is_plan) fit (sym h.is_text ∙ text) in
+      let same = same_plan extents c.in-Some.extents.items (plan_fits c.args.size c.args.block extents c.ranges.size.fits h.is_plan) fit (sym h.is_text ∙ text) in
       let is_text : c.fault_of.result ≡ Text = cc is in
       let no_memory = c.fault_of.ensures.text is_text in
-      elim (c.in-Err.ensures.taken (subst (IsPlan c.args.size) same h.is_plan)) [
+      elim (c.in-Err.ensures.taken (subst (IsPlan c.args.size c.args.block) same h.is_plan)) [
         | inl ok ↦ absurd (cc ok)
         | inr e ↦ let is_memory : c.in-Err.fault ≡ Memory = cc e in no_memory is_memory
       ];

@@ -1,18 +1,91 @@
-use Rattle.std.proofs.Common.{◌<◌, length, inl, inr, arith}
-use Rattle.aff_top.proofs.Devices.{only_of}
+use Rattle.std.proofs.Common.{◌≡◌, Err, length, map, refl, sym, ap, subst, subst₂, ◌∙◌, arith}
+use Rattle.std.specs.Prelude.{IfSome, slice_index_or}
+use Rattle.std.specs.String.{string_bytes}
+use Rattle.aff_model.specs.Content.{IsBlock}
+use Rattle.aff_model.specs.Plan.{IsPlan}
+use Rattle.aff_spec.specs.PlanText.{IsRefusedText}
+use Rattle.aff_top.specs.Outcomes.{IsCutOff, IsFit, IsRun, first_faults, shown}
+use Rattle.aff_top.proofs.OneDevice.{block_is, of_firsts, planned_for, size_is}
+use Rattle.aff_top.proofs.Outcome.{plan_refused, run_refused}
 use Rattle.aff_top.proofs.run.acquire_words.Goals as goal
 
-pub returns-in-Ok-clause-sized : goal.returns-in-Ok-clause-sized
-returns-in-Ok-clause-sized g c = λ _ no. elim c.in-Ok.ensures.sized [ inl h ↦ absurd (cc h.0) | inr all ↦ absurd (no (c.in-Ok.ensures.one, all)) ]
+pub returns-in_default-clause-answer : goal.returns-in_default-clause-answer
+returns-in_default-clause-answer g c = ((λ are. c.in_default.ensures.none are.0 are.1, refl), refl, record { folder = omega arith; source = omega arith })
 
-pub returns-in-Err-clause-refused : goal.returns-in-Err-clause-refused
-returns-in-Err-clause-refused g c = λ is. (
-  c.in-Some.ensures.some.0,
-  λ both.
-      let some : 0 < length c.args.devices.now.items = omega (arith, both.0) in
-      let d = only_of c.args.devices.now.items both.0 in
-      c.in-Err.ensures.refused is 0 d some (both.1 0 d some),
-)
+pub read_plan-requires : goal.read_plan-requires
+read_plan-requires g c =
+    let fit = subst (λ v. IsFit (map (λ d. shown ((g.dyn-1.0.entry d.vtable).1.device_content d.value) ((g.dyn-1.0.entry d.vtable).1.device_block d.value) ((g.dyn-1.0.entry d.vtable).1.device_size d.value) ((g.dyn-1.0.entry d.vtable).1.device_faults d.value)) v)) c.deref.ensures.value c.in_default-refused.ensures.none in
+    let b : c.first_block.result ≡ fit.device.block = block_is (λ d. shown ((g.dyn-1.0.entry d.vtable).1.device_content d.value) ((g.dyn-1.0.entry d.vtable).1.device_block d.value) ((g.dyn-1.0.entry d.vtable).1.device_size d.value) ((g.dyn-1.0.entry d.vtable).1.device_faults d.value)) c.args.devices.now.items fit c.first_block.result (λ d. c.first_block.ensures d ∙ ap (λ v. (g.dyn-1.0.entry (slice_index_or v 0 d).vtable).1.device_block (slice_index_or v 0 d).value) c.deref-3.ensures.value) in
+    record { block = subst IsBlock (sym b) fit.is_block }
 
-pub returns-in-Err-clause-memory : goal.returns-in-Err-clause-memory
-returns-in-Err-clause-memory g c = λ is. rw (← c.in-Some.ensures.some.1) (c.in-Err.ensures.memory is)
+pub returns-in-Err-clause-answer : goal.returns-in-Err-clause-answer
+returns-in-Err-clause-answer g c =
+    let fit = subst (λ v. IsFit (map (λ d. shown ((g.dyn-1.0.entry d.vtable).1.device_content d.value) ((g.dyn-1.0.entry d.vtable).1.device_block d.value) ((g.dyn-1.0.entry d.vtable).1.device_size d.value) ((g.dyn-1.0.entry d.vtable).1.device_faults d.value)) v)) c.deref.ensures.value c.in_default-refused.ensures.none in
+    let s : c.first_size.result ≡ fit.device.size = size_is (λ d. shown ((g.dyn-1.0.entry d.vtable).1.device_content d.value) ((g.dyn-1.0.entry d.vtable).1.device_block d.value) ((g.dyn-1.0.entry d.vtable).1.device_size d.value) ((g.dyn-1.0.entry d.vtable).1.device_faults d.value)) c.args.devices.now.items fit c.first_size.result (λ d. c.first_size.ensures d ∙ ap (λ v. (g.dyn-1.0.entry (slice_index_or v 0 d).vtable).1.device_size (slice_index_or v 0 d).value) c.deref-2.ensures.value) in
+    let b : c.first_block.result ≡ fit.device.block = block_is (λ d. shown ((g.dyn-1.0.entry d.vtable).1.device_content d.value) ((g.dyn-1.0.entry d.vtable).1.device_block d.value) ((g.dyn-1.0.entry d.vtable).1.device_size d.value) ((g.dyn-1.0.entry d.vtable).1.device_faults d.value)) c.args.devices.now.items fit c.first_block.result (λ d. c.first_block.ensures d ∙ ap (λ v. (g.dyn-1.0.entry (slice_index_or v 0 d).vtable).1.device_block (slice_index_or v 0 d).value) c.deref-3.ensures.value) in
+    plan_refused _ _ _ c.in-Err.fault (record { words = (c.in-Some.field-0-0, c.in-Some.ensures.some.0); devices = fit }) refl refl (record { folder = omega arith; source = c.in-Err.ensures.cause.later })
+    (λ is. c.in-Err.ensures.cause.rose (ap Err is))
+    (λ is. record { fit = fit; text = subst₂ (λ n m. IfSome (g.S.Source.left c.args.source.now) (IsRefusedText n m)) s b (c.in-Err.ensures.refused (ap Err is)) })
+    c.in-Err.ensures.fault
+
+pub acquire_first-requires-clause-size : goal.acquire_first-requires-clause-size
+acquire_first-requires-clause-size g c κs within =
+    λ d. c.in-Ok.ensures.plan.1 ∙ c.first_size.ensures d ∙ ap (λ v. (g.dyn-1.0.entry (slice_index_or v 0 d).vtable).1.device_size (slice_index_or v 0 d).value) c.deref-2.ensures.value
+
+pub acquire_first-requires-clause-block : goal.acquire_first-requires-clause-block
+acquire_first-requires-clause-block g c κs within =
+    λ d. c.in-Ok.ensures.plan.2 ∙ c.first_block.ensures d ∙ ap (λ v. (g.dyn-1.0.entry (slice_index_or v 0 d).vtable).1.device_block (slice_index_or v 0 d).value) c.deref-3.ensures.value
+
+pub acquire_first-requires-clause-small : goal.acquire_first-requires-clause-small
+acquire_first-requires-clause-small g c κs within =
+    let fit = subst (λ v. IsFit (map (λ d. shown ((g.dyn-1.0.entry d.vtable).1.device_content d.value) ((g.dyn-1.0.entry d.vtable).1.device_block d.value) ((g.dyn-1.0.entry d.vtable).1.device_size d.value) ((g.dyn-1.0.entry d.vtable).1.device_faults d.value)) v)) c.deref.ensures.value c.in_default-refused.ensures.none in
+    let s : c.first_size.result ≡ fit.device.size = size_is (λ d. shown ((g.dyn-1.0.entry d.vtable).1.device_content d.value) ((g.dyn-1.0.entry d.vtable).1.device_block d.value) ((g.dyn-1.0.entry d.vtable).1.device_size d.value) ((g.dyn-1.0.entry d.vtable).1.device_faults d.value)) c.args.devices.now.items fit c.first_size.result (λ d. c.first_size.ensures d ∙ ap (λ v. (g.dyn-1.0.entry (slice_index_or v 0 d).vtable).1.device_size (slice_index_or v 0 d).value) c.deref-2.ensures.value) in
+    omega (arith, c.in-Ok.ensures.plan.1, s, fit.accepted.bounded)
+
+pub acquire_first-requires-clause-plan : goal.acquire_first-requires-clause-plan
+acquire_first-requires-clause-plan g c κs within =
+    let p = c.in-Ok.plan in
+    subst₂ (λ n m. IsPlan n m p.extents) (sym c.in-Ok.ensures.plan.1) (sym c.in-Ok.ensures.plan.2) c.in-Ok.ensures.plan.0
+
+pub returns-in-Ok-acquire_first-clause-answer : goal.returns-in-Ok-acquire_first-clause-answer
+returns-in-Ok-acquire_first-clause-answer g c =
+    let fit = subst (λ v. IsFit (map (λ d. shown ((g.dyn-1.0.entry d.vtable).1.device_content d.value) ((g.dyn-1.0.entry d.vtable).1.device_block d.value) ((g.dyn-1.0.entry d.vtable).1.device_size d.value) ((g.dyn-1.0.entry d.vtable).1.device_faults d.value)) v)) c.deref.ensures.value c.in_default-refused.ensures.none in
+    let s : c.first_size.result ≡ fit.device.size = size_is (λ d. shown ((g.dyn-1.0.entry d.vtable).1.device_content d.value) ((g.dyn-1.0.entry d.vtable).1.device_block d.value) ((g.dyn-1.0.entry d.vtable).1.device_size d.value) ((g.dyn-1.0.entry d.vtable).1.device_faults d.value)) c.args.devices.now.items fit c.first_size.result (λ d. c.first_size.ensures d ∙ ap (λ v. (g.dyn-1.0.entry (slice_index_or v 0 d).vtable).1.device_size (slice_index_or v 0 d).value) c.deref-2.ensures.value) in
+    let b : c.first_block.result ≡ fit.device.block = block_is (λ d. shown ((g.dyn-1.0.entry d.vtable).1.device_content d.value) ((g.dyn-1.0.entry d.vtable).1.device_block d.value) ((g.dyn-1.0.entry d.vtable).1.device_size d.value) ((g.dyn-1.0.entry d.vtable).1.device_faults d.value)) c.args.devices.now.items fit c.first_block.result (λ d. c.first_block.ensures d ∙ ap (λ v. (g.dyn-1.0.entry (slice_index_or v 0 d).vtable).1.device_block (slice_index_or v 0 d).value) c.deref-3.ensures.value) in
+    let olds = c.args.devices.now.items in
+    let news = c.acquire_first.new.devices.items in
+    let plan = c.in-Ok.plan in
+    let case = g.C.Case.content in
+    let tells = g.F.Folder.tells in
+    let held = g.F.Folder.held c.acquire_first.new.folder in
+    let text = string_bytes c.in-Ok-acquire_first.report in
+    let one : length olds ≡ 1 = sym (ap length c.deref.ensures.value) ∙ c.in_default-refused.ensures.one in (
+      (
+        record { words = (c.in-Some.field-0-0, c.in-Some.ensures.some.0); devices = fit },
+        record {
+          plan = plan;
+          planned = planned_for _ fit (g.S.Source.left c.args.source.now) plan c.first_size.result c.first_block.result s b c.in-Ok.ensures.plan.1 c.in-Ok.ensures.plan.2 c.in-Ok.ensures.plan.0 c.in-Ok.ensures.text;
+          whole = c.in-Ok.ensures.whole;
+          run = subst (λ u. IsRun case tells u plan (first_faults (map (λ d. shown ((g.dyn-1.0.entry d.vtable).1.device_content d.value) ((g.dyn-1.0.entry d.vtable).1.device_block d.value) ((g.dyn-1.0.entry d.vtable).1.device_size d.value) ((g.dyn-1.0.entry d.vtable).1.device_faults d.value)) olds)) (first_faults (map (λ d. shown ((g.dyn-1.0.entry d.vtable).1.device_content d.value) ((g.dyn-1.0.entry d.vtable).1.device_block d.value) ((g.dyn-1.0.entry d.vtable).1.device_size d.value) ((g.dyn-1.0.entry d.vtable).1.device_faults d.value)) news)) held text) c.in-Some.ensures.some.1
+              (of_firsts (λ d. shown ((g.dyn-1.0.entry d.vtable).1.device_content d.value) ((g.dyn-1.0.entry d.vtable).1.device_block d.value) ((g.dyn-1.0.entry d.vtable).1.device_size d.value) ((g.dyn-1.0.entry d.vtable).1.device_faults d.value)) (λ x y. IsRun case tells c.in-Some.uuid plan x y held text) olds news one c.in-Ok-acquire_first.ensures.count c.in-Ok-acquire_first.ensures.done);
+        },
+      ),
+      record { folder = c.in-Ok-acquire_first.ensures.folder.later; source = c.in-Ok.ensures.cause.later },
+    )
+
+pub returns-clause-answer : goal.returns-clause-answer
+returns-clause-answer g c =
+    let fit = subst (λ v. IsFit (map (λ d. shown ((g.dyn-1.0.entry d.vtable).1.device_content d.value) ((g.dyn-1.0.entry d.vtable).1.device_block d.value) ((g.dyn-1.0.entry d.vtable).1.device_size d.value) ((g.dyn-1.0.entry d.vtable).1.device_faults d.value)) v)) c.deref.ensures.value c.in_default-refused.ensures.none in
+    let s : c.first_size.result ≡ fit.device.size = size_is (λ d. shown ((g.dyn-1.0.entry d.vtable).1.device_content d.value) ((g.dyn-1.0.entry d.vtable).1.device_block d.value) ((g.dyn-1.0.entry d.vtable).1.device_size d.value) ((g.dyn-1.0.entry d.vtable).1.device_faults d.value)) c.args.devices.now.items fit c.first_size.result (λ d. c.first_size.ensures d ∙ ap (λ v. (g.dyn-1.0.entry (slice_index_or v 0 d).vtable).1.device_size (slice_index_or v 0 d).value) c.deref-2.ensures.value) in
+    let b : c.first_block.result ≡ fit.device.block = block_is (λ d. shown ((g.dyn-1.0.entry d.vtable).1.device_content d.value) ((g.dyn-1.0.entry d.vtable).1.device_block d.value) ((g.dyn-1.0.entry d.vtable).1.device_size d.value) ((g.dyn-1.0.entry d.vtable).1.device_faults d.value)) c.args.devices.now.items fit c.first_block.result (λ d. c.first_block.ensures d ∙ ap (λ v. (g.dyn-1.0.entry (slice_index_or v 0 d).vtable).1.device_block (slice_index_or v 0 d).value) c.deref-3.ensures.value) in
+    let plan = c.in-Ok.plan in
+    let held = g.F.Folder.held c.acquire_first.new.folder in
+    run_refused _ _ _ c.in-Err-acquire_first.fault (record { words = (c.in-Some.field-0-0, c.in-Some.ensures.some.0); devices = fit })
+    (record {
+      plan = plan;
+      planned = planned_for _ fit (g.S.Source.left c.args.source.now) plan c.first_size.result c.first_block.result s b c.in-Ok.ensures.plan.1 c.in-Ok.ensures.plan.2 c.in-Ok.ensures.plan.0 c.in-Ok.ensures.text;
+      cut_off = subst (λ u. IsCutOff g.C.Case.content g.F.Folder.tells u plan held) c.in-Some.ensures.some.1 c.in-Err-acquire_first.ensures.part;
+    })
+    (record { folder = c.in-Err-acquire_first.ensures.folder.later; source = c.in-Ok.ensures.cause.later })
+    (λ is. c.in-Err-acquire_first.ensures.folder.rose (ap Err is))
+    c.in-Err-acquire_first.ensures.fault

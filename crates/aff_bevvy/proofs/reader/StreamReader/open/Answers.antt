@@ -33,8 +33,8 @@ returns-in-Err-check_chunks-clause-refused g c = λ t. (
   c.in-Err-check_chunks.ensures.fault t,
 )
 
-pub returns-in-Ok-copied-clause-ok : goal.returns-in-Ok-copied-clause-ok
-returns-in-Ok-copied-clause-ok g c = λ t. record {
+pub returns-in-Ok-try_clone-clause-ok : goal.returns-in-Ok-try_clone-clause-ok
+returns-in-Ok-try_clone-clause-ok g c = λ t. record {
   bevvies = subst (λ l. AreBevvies l c.args.stream.now (chunk_count c.args.size)) (listed_held (g.F.Folder.held c.args.folder.now) c.args.segments.now (c.requires.listed t)) (subst (AreBevvies (listed_length c.args.segments.now) c.args.stream.now) c.count_chunks.ensures c.in-Ok.ensures.bevvies);
   chunks = c.in_default.ensures.ok t;
 }

@@ -1,5 +1,5 @@
 use Rattle.std.proofs.Common.{◌≡◌, ◌-◌, ◌≤◌}
-use Rattle.aff_core.specs.Kinds.{AreGreatest, kinds_of, spread}
+use Rattle.aff_model.specs.Kinds.{AreGreatest, kinds_of, spread}
 use Rattle.aff_core.proofs.state.State.runs_of.Given as goal
 
 abbrev pub invariant-loop-done : goal.invariant-loop-done

@@ -15,7 +15,7 @@ pub returns-in-Ok-clause-ok : goal.returns-in-Ok-clause-ok
 returns-in-Ok-clause-ok c =
     let stands : StandsAt c.self.inside.kept.items c.args.name.now c.in-Ok.i = subst (λ es. StandsAt es c.args.name.now c.in-Ok.i) c.deref.ensures.value c.in-Ok.ensures.found in
     where_ok c.grow.result
-    (λ is. grown _ c.args.name.now c.args.block _ c.index_mut.result.now c.grow.new.self c.self.invariant stands c.index_mut.ensures.value is ∙ ap (λ held. appended held c.args.name.now c.args.block) c.self.view_is)
+    (λ is. grown _ c.args.name.now c.args.shared _ c.index_mut.result.now c.grow.new.self c.self.invariant stands c.index_mut.ensures.value is ∙ ap (λ held. appended held c.args.name.now c.args.shared) c.self.view_is)
     c.grow.ensures.ok
 
 pub invariant_of-self-in-Err : goal.invariant_of-self-in-Err
@@ -27,6 +27,6 @@ pub returns-in_ok-one-in-Err-clause-ok : goal.returns-in_ok-one-in-Err-clause-ok
 returns-in_ok-one-in-Err-clause-ok c =
     let gap : IsGap c.self.inside.kept.items c.args.name.now c.in-Err.i = subst (λ es. IsGap es c.args.name.now c.in-Err.i) c.deref.ensures.value c.in-Err.ensures.missing in
     where_is_ok c.map_err.result
-    (λ is. made _ _ c.args.name.now c.args.block _ c.in_ok-one-in-Err.one c.self.invariant gap c.in_ok-one-in-Err.ensures
+    (λ is. made _ _ c.args.name.now c.args.shared _ c.in_ok-one-in-Err.one c.self.invariant gap c.in_ok-one-in-Err.ensures
     (c.insert.ensures.items ∙ ap (λ b. if b then insert c.self.inside.kept.items c.in-Err.i c.in_ok-one-in-Err.one else c.self.inside.kept.items) (sym c.map_err.ensures.variant ∙ is))
-    ∙ ap (λ held. appended held c.args.name.now c.args.block) c.self.view_is)
+    ∙ ap (λ held. appended held c.args.name.now c.args.shared) c.self.view_is)

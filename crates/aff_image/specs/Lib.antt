@@ -1,0 +1,8 @@
+pub mod Finished
+pub mod Hashes
+pub mod Image
+pub mod Laws
+pub mod Small
+pub mod Sound
+pub mod Volume
+pub mod Witnesses

@@ -1,0 +1,41 @@
+-- What a run leaves in its folder.
+use Rattle.std.specs.Prelude.{◌≡◌, ℕ, ◌↔◌, ◌⊎◌, List, length, Some, IsSome, Contains}
+use Rattle.std.specs.FinMap.{empty, get}
+use Rattle.aff_model.specs.Held.{Held}
+use Rattle.aff_model.specs.Legal.{IsComplete}
+use Rattle.aff_fields.specs.declared.entry.Entry.{Entry}
+use Rattle.aff_spec.specs.Acquired.{volume_appends, segment_names}
+use Rattle.aff_spec.specs.Appends.{Append, applied, Reaches}
+use Rattle.aff_spec.specs.Bevvies.{written}
+use Rattle.aff_spec.specs.BlockHashes.{HasBlockHashes}
+use Rattle.aff_spec.specs.Names.{stream_urn}
+use Rattle.aff_spec.specs.Runs.{AreGreatestRuns}
+use Rattle.aff_spec.specs.Symbols.{fill_of}
+use Rattle.aff_spec.specs.Volumes.{volume_of, volume_cell, volume_byte}
+use Rattle.aff_image.specs.Image.{Image, acquired_content, image_spot}
+
+-- the appends of an image whose map has these entries: the stream bevvy by bevvy, the map, and the list of targets
+abbrev pub image_appends : List ℕ → Image → List Entry → List Append
+image_appends uuid m entries = volume_appends uuid m.chunks entries
+
+-- the folder is the volume of an image: made by its appends, with the greatest runs of its places as entries; with these
+-- segments and no other; it reads as the acquired content, as cell and as byte; and each stored chunk has its block hashes
+pub record IsVolume (uuid : List ℕ) (m : Image) (held : Held) : Type 0 where
+  pub entries : List Entry
+  pub runs : AreGreatestRuns (image_spot m) entries
+  pub made : held ≡ applied empty (image_appends uuid m entries)
+  pub segments : (name : List ℕ) → IsSome (get held name) ↔ Contains (segment_names uuid (length m.chunks)) name
+  pub cells : (i : ℕ) → volume_cell held (volume_of uuid) i ≡ Some (acquired_content m i)
+  pub bytes : (i : ℕ) → volume_byte held (volume_of uuid) i ≡ Some (fill_of i (acquired_content m i))
+  pub blocks : HasBlockHashes held (stream_urn uuid) (length m.chunks)
+
+-- some first of the appends that make the whole volume were made, perhaps with a prefix of the next one
+pub record IsNearlyVolume (uuid : List ℕ) (m : Image) (held : Held) : Type 0 where
+  pub whole : Held
+  pub volume : IsVolume uuid m whole
+  pub complete : IsComplete m.plan.extents m.history
+  pub reached : Reaches empty (image_appends uuid m volume.entries) held
+
+-- the order of appends of an image had got so far: into its stream, or into what ends the volume
+abbrev pub HasReached : List ℕ → Image → Held → Type 0
+HasReached uuid m held = Reaches empty (written (stream_urn uuid) m.chunks) held ⊎ IsNearlyVolume uuid m held

@@ -1,0 +1,9 @@
+pub mod Given
+pub mod Urns
+pub mod Numbers
+pub mod Ones
+pub mod Runs
+pub mod Wholes
+pub mod Outcomes
+pub mod Rows
+pub mod Back

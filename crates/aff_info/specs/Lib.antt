@@ -1,0 +1,10 @@
+pub mod Schema
+pub mod Table
+pub mod Statements
+pub mod Values
+pub mod Found
+pub mod Faults
+pub mod Accept
+pub mod Reading
+pub mod Writing
+pub mod Laws

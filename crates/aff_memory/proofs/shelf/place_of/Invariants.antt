@@ -1,5 +1,0 @@
-use Rattle.aff_memory.proofs.Places.{IsPast}
-use Rattle.aff_memory.proofs.shelf.place_of.Given as goal
-
-abbrev pub invariant-loop-i : goal.invariant-loop-i
-invariant-loop-i l = IsPast l.kept l.name l.i

@@ -1,0 +1,186 @@
+//! Devices that are refused.
+ghost use Rattle.std.specs.Prelude.{None};
+
+use crate::fixture::{LARGE_WORDS, NONE, Ran, WORDS, run_at};
+use aff_memory::MemorySource;
+use aff_outside::{Device, DeviceFailed, Source};
+use std::alloc::Global;
+use std::test::Fail;
+
+/// A device of so many bytes in such blocks, whose first reading fails and no other.
+#[derive(Drop)]
+struct Blank {
+    block: u32,
+    size: u64,
+    faults: u64,
+}
+
+impl Device for Blank {
+    ghost device_content = { λ _. None };
+
+    ghost device_block = { λ d. d.block };
+
+    ghost device_size = { λ d. d.size };
+
+    ghost device_faults = { λ d. d.faults };
+
+    fn block(&self) -> u32 {
+        self.block
+    }
+
+    fn size(&self) -> u64 {
+        self.size
+    }
+
+    fn read_at(&mut self, at: u64, out: &mut [u8]) -> Result<(), DeviceFailed> {
+        if self.faults > 0 {
+            return Ok(());
+        }
+        self.faults = 1;
+        Err(DeviceFailed)
+    }
+}
+
+const TEXT: &[u8] = b"extent 0 512 0\n";
+
+/// What a source has left.
+fn rest(alloc: Global, source: &mut MemorySource) -> Result<Vec<u8>, Fail> {
+    let mut buffer = [0u8; 64];
+    match source.read(&mut buffer) {
+        Ok(count) => Ok(buffer[..count].to_vec(alloc)?),
+        Err(_) => Err("the source failed")?,
+    }
+}
+
+/// Devices of such blocks and sizes.
+fn blanks(alloc: Global, sizes: &[(u32, u64)]) -> Result<Vec<Box<dyn Device>>, Fail> {
+    let mut devices: Vec<Box<dyn Device>> = Vec::new(alloc);
+    for (block, size) in sizes {
+        let device = Blank {
+            block: *block,
+            size: *size,
+            faults: 0,
+        };
+        devices.push(Box::new(alloc, device)?)?;
+    }
+    Ok(devices)
+}
+
+/// Whether the run left the folder, the source and the devices as they were.
+fn is_untouched(alloc: Global, ran: &mut Ran) -> Result<bool, Fail> {
+    let mut untouched = ran.folder.calls() == 0;
+    untouched &= rest(alloc, &mut ran.source)?.as_slice() == TEXT;
+    for device in ran.devices.iter_mut() {
+        // The first reading.
+        untouched &= device.read_at(0, &mut []).is_err();
+    }
+    Ok(untouched)
+}
+
+/// The line of refused devices, the same at both commands.
+fn refusal(alloc: Global, sizes: &[(u32, u64)]) -> Result<Vec<u8>, Fail> {
+    let mut written = Vec::new(alloc);
+    for words in [&WORDS, &LARGE_WORDS] {
+        let mut ran = run_at(alloc, words, TEXT, blanks(alloc, sizes)?, NONE)?;
+        if ran.status != 10 || !is_untouched(alloc, &mut ran)? {
+            return Err("not refused")?;
+        }
+        written.extend_from_slice(&ran.written)?;
+    }
+    let (first, second) = written.split_at(written.len() / 2);
+    if first != second {
+        return Err("two lines")?;
+    }
+    Ok(first.to_vec(alloc)?)
+}
+
+#[test]
+fn a_size_of_no_whole_blocks(rt: HostRuntime) -> Result<(), Fail> {
+    let alloc = rt.alloc();
+    assert_eq!(rt;
+        refusal(alloc, &[(512, 513)])?.as_slice(),
+        b"error devices size 0 513\n".as_slice()
+    );
+    assert_eq!(rt;
+        refusal(alloc, &[(512, 0)])?.as_slice(),
+        b"error devices size 0 0\n".as_slice()
+    );
+    assert_eq!(rt;
+        refusal(alloc, &[(4_096, 4_608)])?.as_slice(),
+        b"error devices size 0 4608\n".as_slice()
+    );
+    // One sector more than 2^44 bytes.
+    assert_eq!(rt;
+        refusal(alloc, &[(512, 17_592_186_044_928)])?.as_slice(),
+        b"error devices size 0 17592186044928\n".as_slice()
+    );
+    Ok(())
+}
+
+#[test]
+fn another_block(rt: HostRuntime) -> Result<(), Fail> {
+    let alloc = rt.alloc();
+    assert_eq!(rt;
+        refusal(alloc, &[(1_024, 4_096)])?.as_slice(),
+        b"error devices sector 0 1024\n".as_slice()
+    );
+    // The block is told before the size.
+    assert_eq!(rt;
+        refusal(alloc, &[(0, 0)])?.as_slice(),
+        b"error devices sector 0 0\n".as_slice()
+    );
+    Ok(())
+}
+
+#[test]
+fn another_number_of_devices(rt: HostRuntime) -> Result<(), Fail> {
+    let alloc = rt.alloc();
+    assert_eq!(rt;
+        refusal(alloc, &[])?.as_slice(),
+        b"error devices none\n".as_slice()
+    );
+    assert_eq!(rt;
+        refusal(alloc, &[(512, 512), (512, 512)])?.as_slice(),
+        b"error devices unbuilt\n".as_slice()
+    );
+    assert_eq!(rt;
+        refusal(alloc, &[(1_024, 1), (4_096, 0), (512, 513)])?.as_slice(),
+        b"error devices unbuilt\n".as_slice()
+    );
+    Ok(())
+}
+
+/// Whether a run at these words ends with status 2, and touches neither the folder, nor the source, nor a device.
+fn is_usage(alloc: Global, words: &[&str]) -> Result<bool, Fail> {
+    let mut ran = run_at(alloc, words, TEXT, blanks(alloc, &[(1_024, 1)])?, NONE)?;
+    let untouched = is_untouched(alloc, &mut ran)?;
+    Ok(ran.status == 2 && ran.written.as_slice() == b"error usage\n".as_slice() && untouched)
+}
+
+#[test]
+fn other_words(rt: HostRuntime) -> Result<(), Fail> {
+    let alloc = rt.alloc();
+    let [command, folder, uuid, device] = WORDS;
+    assert!(rt; is_usage(alloc, &[])?);
+    assert!(rt; is_usage(alloc, &["acquire8k", folder, uuid, device])?);
+    assert!(rt; is_usage(alloc, &[command, folder, uuid])?);
+    assert!(rt; is_usage(alloc, &[command, folder, uuid, device, device])?);
+    assert!(rt; is_usage(alloc, &[command, "", uuid, device])?);
+    Ok(())
+}
+
+#[test]
+fn the_greatest_size(rt: HostRuntime) -> Result<(), Fail> {
+    let alloc = rt.alloc();
+    let ran = run_at(
+        alloc,
+        &LARGE_WORDS,
+        b"extent 1 1 0\n",
+        blanks(alloc, &[(4_096, 17_592_186_044_416)])?,
+        NONE,
+    )?;
+    // It is the text that is refused.
+    assert_eq!(rt; ran.status, 3);
+    assert_eq!(rt; ran.folder.calls(), 0);
+    Ok(())
+}

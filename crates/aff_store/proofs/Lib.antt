@@ -1,0 +1,7 @@
+mod Chosen
+mod Closings
+mod Cuts
+mod FirstPlaces
+mod Joining
+mod Placings
+mod Steps

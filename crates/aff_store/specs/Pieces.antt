@@ -1,0 +1,43 @@
+-- What is kept of an extent that was stored.
+use Rattle.std.specs.Prelude.{◌≡◌, ℕ, ◌<◌, Bool, false, List, length, map, slice_index_or, IsTrue}
+use Rattle.std.specs.List.{range_with_len}
+use Rattle.sha2.specs.Sha256.{sha256}
+use Rattle.aff_model.specs.declared.publication.Place.{Place}
+use Rattle.aff_model.specs.declared.publication.Place.TheVariants.{Zero, Chunk, Nothing}
+use Rattle.aff_model.specs.History.{Part, publication_of}
+use Rattle.aff_model.specs.Legal.{numbers_of}
+use Rattle.aff_spec.specs.Chunks.{chunk_at}
+use Rattle.aff_chunk.specs.declared.kind.Cut.{Cut}
+use Rattle.aff_chunk.specs.declared.kind.Cut.TheVariants.{Zero as CutZero, Stored as CutStored, Nothing as CutNothing}
+use Rattle.aff_extent.specs.Drafts.{Drafted}
+
+-- a chunk that is cut so has such a place
+abbrev pub IsKept : Cut → Place → Type 0
+IsKept CutZero Zero = Unit {0}
+IsKept CutZero (Chunk c) = ⊥
+IsKept CutZero Nothing = ⊥
+IsKept CutStored Zero = ⊥
+IsKept CutStored (Chunk c) = Unit {0}
+IsKept CutStored Nothing = ⊥
+IsKept CutNothing Zero = ⊥
+IsKept CutNothing (Chunk c) = ⊥
+IsKept CutNothing Nothing = Unit {0}
+
+-- each chunk has its place, and the stored ones are numbered one after another from a first number on
+pub record ArePlaces (first : ℕ) (cuts : List Cut) (places : List Place) : Type 0 where
+  pub count : length places ≡ length cuts
+  pub kept : (j : ℕ) (c : Cut) (p : Place) → j < length cuts → IsKept (slice_index_or cuts j c) (slice_index_or places j p)
+  pub numbered : numbers_of places ≡ range_with_len first (length (numbers_of places))
+
+-- the chunks of an extent's bytes that are to be stored, padded
+abbrev pub chosen_chunks : List ℕ → List ℕ → List (List ℕ)
+chosen_chunks bytes stored = map (chunk_at bytes) stored
+
+-- the piece of an extent by its number: read by worker 0, with the unreadable sectors and the places of the draft, and of each
+-- stored chunk the SHA-256 and a receipt, which tells it, where it tells
+pub record IsPieceOf (number first : ℕ) (bytes : List ℕ) (d : Drafted) (tells : Bool) {R : Type 0} (told : R → List ℕ) (p : Part R) : Type 0 where
+  pub is : publication_of p ≡ record { extent = number; claimant = 0; swept = false; bad = d.unreadable; places = p.places }
+  pub placed : ArePlaces first d.cuts p.places
+  pub digests : p.digests ≡ map sha256 (chosen_chunks bytes d.stored)
+  pub receipts : length p.receipts ≡ length d.stored
+  pub told_chunks : IsTrue tells → map told p.receipts ≡ chosen_chunks bytes d.stored

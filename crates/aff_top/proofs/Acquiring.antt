@@ -1,0 +1,125 @@
+-- What a run leaves whose extents are stored, all of them or some.
+use Rattle.std.proofs.Common.{◌≡◌, ℕ, ◌≤◌, true, List, ◌++◌, length, map, refl, sym, ap, subst, ◌∙◌, arith}
+use Rattle.std.specs.Prelude.{Bool, None, Option, Some, All, IsTrue, MatchOption}
+use Rattle.std.specs.FinMap.{empty}
+use Rattle.std.specs.List.{range_with_len}
+use Rattle.aff_model.specs.declared.extent.Extent.{Extent}
+use Rattle.aff_model.specs.declared.limits.TheConstants.{MAX_CHUNKS}
+use Rattle.aff_model.specs.declared.publication.Place.{Place}
+use Rattle.aff_model.specs.declared.publication.Place.TheVariants.{Zero, Chunk, Nothing}
+use Rattle.aff_model.specs.Content.{Content}
+use Rattle.aff_model.specs.Held.{Held}
+use Rattle.aff_model.specs.History.{Published}
+use Rattle.aff_model.specs.Legal.{IsComplete}
+use Rattle.aff_model.specs.Plan.{Planned, IsPlan}
+use Rattle.aff_model.proofs.Once.{extents_of}
+use Rattle.aff_fields.specs.declared.entry.Entry.{Entry}
+use Rattle.aff_fields.specs.Entry.{FitsEntry}
+use Rattle.aff_device.specs.Around.{RoseBy}
+use Rattle.aff_map.specs.Mappable.{AreMappable, IsMappable, IsNumbered}
+use Rattle.aff_spec.specs.Acquired.{end_appends}
+use Rattle.aff_spec.specs.Appends.{applied, Reaches}
+use Rattle.aff_spec.specs.Bevvies.{written}
+use Rattle.aff_spec.specs.Digests.{linear_lines}
+use Rattle.aff_spec.specs.Names.{stream_urn}
+use Rattle.aff_spec.specs.Report.{report_text}
+use Rattle.aff_spec.specs.Runs.{AreGreatestRuns, history_spot}
+use Rattle.aff_spec.specs.Volumes.{volume_of, volume_bytes}
+use Rattle.aff_spec.specs.Walks.{IsWalkable}
+use Rattle.aff_spec.specs.Words.{is_uuid}
+use Rattle.aff_image.specs.Hashes.{Hashed, linear_of}
+use Rattle.aff_image.specs.Witnesses.{history_of, kept_chunks}
+use Rattle.aff_image.proofs.Counts.{few_kept}
+use Rattle.aff_image.proofs.Endings.{finished, made-end, reached-end, stopped, stopped_behind, walkable}
+use Rattle.aff_image.proofs.Growth.{reached-still}
+use Rattle.aff_image.proofs.Orders.{in_order-complete}
+use Rattle.aff_image.proofs.Shapes.{HasShape, IsBelow, shaped}
+use Rattle.aff_store.specs.Written.{Written}
+use Rattle.aff_top.specs.Outcomes.{IsCutOff, IsRun, asked}
+use Rattle.aff_top.specs.Stored.{AreStored, AreStoredInPart, blocks_lost}
+
+-- a chunk with a low number leaves room in the stream
+numbered : (p : Place) → IsBelow MAX_CHUNKS p → IsNumbered p
+numbered Zero below = tt
+numbered Nothing below = tt
+numbered (Chunk c) below = omega (arith, below)
+
+mapped : (e : Extent) (p : Published) → HasShape e p → IsMappable e p
+mapped e p shape = record { rising = shape.rising; count = shape.count; numbered = λ k d below. numbered _ (shape.below k d below) }
+
+mapped_one : (o : Option Extent) (p : Published) → MatchOption o ⊥ (λ e. HasShape e p) → MatchOption o ⊥ (λ e. IsMappable e p)
+mapped_one None p shape = absurd shape
+mapped_one (Some e) p shape = mapped e p shape
+
+module _ (case : Option Content) (plan : Planned) (is_plan : IsPlan plan.size plan.block plan.extents) (tells : Bool) (uuid : List ℕ) where
+  -- the run stopped in its stream
+  pub cut_off : (old held : Held) → (IsTrue tells → old ≡ empty) → AreStoredInPart case plan tells (stream_urn uuid) old held → IsCutOff case tells uuid plan held
+  cut_off old held none part =
+      let m = stopped case tells (asked uuid plan) part.readings is_plan part.are held
+      (λ t. subst (λ o. Reaches o (written (stream_urn uuid) (kept_chunks part.readings)) held) (none t) (part.reached t)) in
+      record { image = m.0; stopped = m.2 }
+
+  -- all extents are stored
+  module _ (ok : is_uuid uuid ≡ true) (old mid : Held) (none : IsTrue tells → old ≡ empty) (w : Written) (before now : ℕ) (history : List Published)
+      (stored : AreStored case plan (length plan.extents) tells (stream_urn uuid) old mid w before now history) where
+    complete : IsComplete plan.extents (history_of stored.readings)
+    complete =
+        in_order-complete plan.extents (history_of stored.readings)
+        (subst (λ h. extents_of h ≡ range_with_len 0 (length plan.extents)) (sym stored.history_is) stored.in_order)
+
+    pub mappable : AreMappable plan.extents history
+    mappable = subst (AreMappable plan.extents) stored.history_is (record {
+      once = stored.are.once;
+      published = λ k d below. mapped_one _ _ (shaped case plan 1 stored.readings is_plan stored.are k d below);
+    })
+
+    pub chunks_are : w.chunks ≡ kept_chunks stored.readings
+    chunks_are = ap (λ (v : Written). v.chunks) stored.stream
+
+    pub few_chunks : length w.chunks ≤ MAX_CHUNKS
+    few_chunks = omega (arith, ap length chunks_are, few_kept case plan 1 stored.readings is_plan stored.are)
+
+    held_here : IsTrue tells → mid ≡ applied empty (written (stream_urn uuid) (kept_chunks stored.readings))
+    held_here t = stored.appended t ∙ ap (λ h. applied h (written (stream_urn uuid) (kept_chunks stored.readings))) (none t)
+
+    -- and the run stopped there
+    pub cut_off_here : IsCutOff case tells uuid plan mid
+    cut_off_here =
+        let m = stopped case tells (asked uuid plan) stored.readings is_plan stored.are mid (λ t. reached-still (stream_urn uuid) stored.readings empty mid (held_here t)) in
+        record { image = m.0; stopped = m.2 }
+
+    module _ (entries : List Entry) (runs : AreGreatestRuns (history_spot plan.extents history) entries) (fit : All FitsEntry entries) where
+      runs_here : AreGreatestRuns (history_spot plan.extents (history_of stored.readings)) entries
+      runs_here = subst (λ h. AreGreatestRuns (history_spot plan.extents h) entries) (sym stored.history_is) runs
+
+      pub walks : IsWalkable tells (applied mid (end_appends uuid w.chunks entries)) uuid plan.size entries
+      walks =
+          walkable case tells (asked uuid plan) stored.readings is_plan stored.are entries ok complete runs_here fit (applied mid (end_appends uuid w.chunks entries))
+          (λ t. made-end uuid (kept_chunks stored.readings) entries empty mid (applied mid (end_appends uuid w.chunks entries)) (held_here t) (ap (λ c. applied mid (end_appends uuid c entries)) chunks_are))
+
+      -- the run stopped behind its stream
+      pub cut_off_behind : (new : Held) → (IsTrue tells → Reaches mid (end_appends uuid w.chunks entries) new) → IsCutOff case tells uuid plan new
+      cut_off_behind new reached =
+          let m = stopped_behind case tells (asked uuid plan) stored.readings is_plan stored.are entries ok complete runs_here fit new
+          (λ t. reached-end uuid (kept_chunks stored.readings) entries empty mid new (held_here t) (subst (λ c. Reaches mid (end_appends uuid c entries) new) chunks_are (reached t))) in
+          record { image = m.0; stopped = m.2 }
+
+      -- the run came to its end
+      pub is_run : (new : Held) (text report bytes : List ℕ) → text ≡ report ++ linear_lines bytes → report ≡ report_text uuid plan.size (length plan.extents) history
+          → (IsTrue tells → new ≡ applied mid (end_appends uuid w.chunks entries)) → (IsTrue tells → bytes ≡ volume_bytes new (volume_of uuid) plan.size) → IsRun case tells uuid plan before now new text
+      is_run new text report bytes is_text is_report made walked =
+          let hashed : Hashed = record { linear = linear_of bytes } in
+          let m =
+          finished case tells (asked uuid plan) stored.readings is_plan stored.are entries ok complete runs_here fit new hashed bytes
+          (λ t. made-end uuid (kept_chunks stored.readings) entries empty mid new (held_here t) (made t ∙ ap (λ c. applied mid (end_appends uuid c entries)) chunks_are)) refl walked in
+          let same = m.1 ∙ stored.history_is in
+          record {
+            image = m.0;
+            hashed = hashed;
+            bytes = bytes;
+            finished = m.2;
+            hashed_is = refl;
+            in_order = subst (λ h. map (λ p. p.extent) h ≡ range_with_len 0 (length plan.extents)) (sym same) stored.in_order;
+            is_report = is_text ∙ ap (λ v. v ++ linear_lines bytes) (is_report ∙ ap (report_text uuid plan.size (length plan.extents)) (sym same));
+            counted = subst (λ h. RoseBy (blocks_lost plan.block h) before now) (sym same) stored.counted;
+          }

@@ -1,0 +1,269 @@
+-- How a run may end.
+use Rattle.std.specs.Prelude.{String, ◌≡◌, ◌⊎◌, ◌≤◌, ◌<◌, ℕ, Bool, List, [], ◌∷◌, ◌++◌, length, map, slice_index_or, take, codes, Option, Result, Ok, Err, IfSome, if◌then◌else◌, ◌==◌}
+use Rattle.std.specs.String.{string_bytes}
+use Rattle.std.specs.Fmt.{decimal}
+use Rattle.std.specs.List.{range_with_len}
+use Rattle.std.specs.Io.KnownBytes.{Appends, Keeps, IsAtEnd}
+use Rattle.aff_model.specs.declared.limits.TheConstants.{SECTOR, LARGE_BLOCK}
+use Rattle.aff_model.specs.Causes.{Rose}
+use Rattle.aff_model.specs.Content.{Content, IsBlock}
+use Rattle.aff_model.specs.Held.{Held}
+use Rattle.aff_model.specs.Plan.{Planned, IsPlan}
+use Rattle.aff_outside.specs.declared.folder.Folder.{Ghosts as FolderGhosts}
+use Rattle.aff_outside.specs.declared.text.Source.{Ghosts as SourceGhosts}
+use Rattle.aff_outside.specs.declared.text.Sink.{Ghosts as SinkGhosts}
+use Rattle.aff_device.specs.Around.{RoseBy}
+use Rattle.aff_spec.specs.Digests.{linear_lines}
+use Rattle.aff_spec.specs.PlanText.{IsPlanText, IsRefusedText}
+use Rattle.aff_spec.specs.Report.{report_text}
+use Rattle.aff_spec.specs.Words.{IsAcquire, IsDeviceSize, uuid_of}
+use Rattle.aff_image.specs.Finished.{Asked, IsFinished, IsStopped}
+use Rattle.aff_image.specs.Hashes.{Hashed, linear_of}
+use Rattle.aff_image.specs.Image.{Image}
+use Rattle.aff_top.specs.Stored.{blocks_lost}
+use Rattle.aff_top.specs.declared.fault.Fault.{Fault}
+use Rattle.aff_top.specs.declared.fault.Fault.TheVariants.{Usage, Devices, Source, Text, Folder, Memory}
+use Rattle.aff_top.specs.declared.fault.Refusal.{Refusal}
+use Rattle.aff_top.specs.declared.fault.Refusal.TheVariants.{Missing, Several, Block, Size}
+
+-- what is asked: the words, with what is told of the device's content, and whether the folder tells what it holds
+pub record Request : Type 0 where
+  pub words : List (List ℕ)
+  pub case : Option Content
+  pub tells : Bool
+
+abbrev pub request : List (List ℕ) → Option Content → Bool → Request
+request words case tells = record { words = words; case = case; tells = tells }
+
+-- what a device shows
+pub record Shown : Type 0 where
+  pub content : Option Content
+  pub block : ℕ
+  pub size : ℕ
+  pub faults : ℕ
+
+abbrev pub shown : Option Content → ℕ → ℕ → ℕ → Shown
+shown content block size faults = record { content = content; block = block; size = size; faults = faults }
+
+-- what a run is handed, and what it shows at one time
+pub record Facts (F S : Type 0) : Type 0 where
+  pub devices : List Shown
+  pub folder : F
+  pub source : S
+  pub held : Held
+  pub folder_faults : ℕ
+  pub left : Option (List ℕ)
+  pub source_faults : ℕ
+
+abbrev pub facts : {F R P S : Type 0} → FolderGhosts F R P → SourceGhosts S → List Shown → F → S → Facts F S
+facts f s devices folder source =
+    record { devices = devices; folder = folder; source = source; held = f.held folder; folder_faults = f.folder_faults folder; left = s.left source; source_faults = s.source_faults source }
+
+-- the words are those of an acquisition, with blocks of either size
+abbrev pub AreAcquire : List (List ℕ) → Type 0
+AreAcquire words = (block : ℕ) × IsAcquire block words
+
+-- the one device: its block is 512 or 4,096 bytes, and its size is accepted
+pub record IsFit (devices : List Shown) : Type 0 where
+  pub device : Shown
+  pub only : devices ≡ device ∷ []
+  pub is_block : IsBlock device.block
+  pub accepted : IsDeviceSize device.block device.size
+
+-- an acquisition is asked, from a device that is fit
+pub record IsTaken {F S : Type 0} (ask : Request) (old : Facts F S) : Type 0 where
+  pub words : AreAcquire ask.words
+  pub devices : IsFit old.devices
+
+-- what the one worker of an acquisition is asked for
+abbrev pub asked : List ℕ → Planned → Asked
+asked uuid plan = record { uuid = uuid; plan = plan; workers = 1; examiners = 0 }
+
+-- A plan was acquired: the folder is the finished volume of an image of it, whose history has the extents in the plan's order;
+-- the report is that of the history with the image's linear hashes; and the device's count rose by at least the number of
+-- blocks that are unreadable.
+pub record IsRun (case : Option Content) (tells : Bool) (uuid : List ℕ) (plan : Planned) (before now : ℕ) (held : Held) (report : List ℕ) : Type 0 where
+  pub image : Image
+  pub hashed : Hashed
+  pub bytes : List ℕ
+  pub finished : IsFinished case tells (asked uuid plan) image held hashed
+  pub hashed_is : hashed.linear ≡ linear_of bytes
+  pub in_order : map (λ p. p.extent) image.history ≡ range_with_len 0 (length plan.extents)
+  pub is_report : report ≡ report_text uuid plan.size (length plan.extents) image.history ++ linear_lines bytes
+  pub counted : RoseBy (blocks_lost plan.block image.history) before now
+
+-- the order of appends of an image of the plan had got so far
+pub record IsCutOff (case : Option Content) (tells : Bool) (uuid : List ℕ) (plan : Planned) (held : Held) : Type 0 where
+  pub image : Image
+  pub stopped : IsStopped case tells (asked uuid plan) image held
+
+-- the count of a device's faults
+abbrev pub first_faults : List Shown → ℕ
+first_faults [] = 0
+first_faults (device ∷ others) = device.faults
+
+-- the text was that of a plan for the one device
+pub record IsPlanned (devices : List Shown) (left : Option (List ℕ)) (plan : Planned) : Type 0 where
+  pub fit : IsFit devices
+  pub size : plan.size ≡ fit.device.size
+  pub block : plan.block ≡ fit.device.block
+  pub is_plan : IsPlan plan.size plan.block plan.extents
+  pub is_text : IfSome left (IsPlanText plan.size plan.block plan.extents)
+
+-- the run's plan was acquired, with this report; the source was read to its end
+pub record IsDone {F S : Type 0} (ask : Request) (old new : Facts F S) (report : List ℕ) : Type 0 where
+  pub plan : Planned
+  pub planned : IsPlanned old.devices old.left plan
+  pub whole : IsAtEnd new.left
+  pub run : IsRun ask.case ask.tells (uuid_of ask.words) plan (first_faults old.devices) (first_faults new.devices) new.held report
+
+-- the run's plan was not acquired whole
+pub record IsPart {F S : Type 0} (ask : Request) (old new : Facts F S) : Type 0 where
+  pub plan : Planned
+  pub planned : IsPlanned old.devices old.left plan
+  pub cut_off : IsCutOff ask.case ask.tells (uuid_of ask.words) plan new.held
+
+-- the text is that of no plan for the one device
+pub record IsRefused {F S : Type 0} (old : Facts F S) : Type 0 where
+  pub fit : IsFit old.devices
+  pub text : IfSome old.left (IsRefusedText fit.device.size fit.device.block)
+
+-- the devices as they come back: contents, blocks and sizes stay, and counts do not fall
+pub record AreKept {D : Type 0} (content : D → Option Content) (block size faults : D → ℕ) (old new : List D) : Type 0 where
+  pub count : length new ≡ length old
+  pub contents : (k : ℕ) (d : D) → k < length old → content (slice_index_or new k d) ≡ content (slice_index_or old k d)
+  pub blocks : (k : ℕ) (d : D) → k < length old → block (slice_index_or new k d) ≡ block (slice_index_or old k d)
+  pub sizes : (k : ℕ) (d : D) → k < length old → size (slice_index_or new k d) ≡ size (slice_index_or old k d)
+  pub rising : (k : ℕ) (d : D) → k < length old → faults (slice_index_or old k d) ≤ faults (slice_index_or new k d)
+
+-- counts do not fall
+pub record IsLater {F S : Type 0} (old new : Facts F S) : Type 0 where
+  pub folder : old.folder_faults ≤ new.folder_faults
+  pub source : old.source_faults ≤ new.source_faults
+
+-- the statuses by their numbers
+pub data Status : Type 0 where
+  done : Status
+  usage : Status
+  text : Status
+  source : Status
+  sink : Status
+  folder : Status
+  memory : Status
+  devices : Status
+  other : Status
+
+abbrev pub status_at : ℕ → Status
+status_at n =
+    if n == 0 then done
+    else (if n == 2 then usage
+    else (if n == 3 then text
+    else (if n == 4 then source
+    else (if n == 5 then sink
+    else (if n == 6 then folder
+    else (if n == 7 then memory
+    else (if n == 10 then devices else other)))))))
+
+-- why each status comes, and what it leaves; at `done` and `sink` with this report
+abbrev pub Leaves : {F S : Type 0} → Status → Request → Facts F S → Facts F S → List ℕ → Type 0
+Leaves done ask old new report = IsTaken ask old × IsDone ask old new report
+Leaves usage ask old new report = (¬ (AreAcquire ask.words)) × (new ≡ old)
+Leaves text ask old new report = IsTaken ask old × IsRefused old × (new.folder ≡ old.folder) × (new.devices ≡ old.devices)
+Leaves source ask old new report = IsTaken ask old × Rose old.source_faults new.source_faults × (new.folder ≡ old.folder) × (new.devices ≡ old.devices)
+Leaves sink ask old new report = IsTaken ask old × IsDone ask old new report
+Leaves folder ask old new report = IsTaken ask old × Rose old.folder_faults new.folder_faults × IsPart ask old new
+Leaves memory ask old new report = (new.folder ≡ old.folder) ⊎ (IsPart ask old new ⊎ ((whole : List ℕ) × IsDone ask old new whole))
+Leaves devices ask old new report = AreAcquire ask.words × (¬ (IsFit old.devices)) × (new ≡ old)
+Leaves other ask old new report = ⊥
+
+-- the line of a device that is refused by itself: for a block that is neither 512 nor 4,096 bytes, else for its size
+abbrev pub device_line : Shown → List ℕ
+device_line d =
+    if d.block == SECTOR then codes "error devices size 0 " ++ (decimal d.size ++ codes "\n")
+    else (if d.block == LARGE_BLOCK then codes "error devices size 0 " ++ (decimal d.size ++ codes "\n")
+    else codes "error devices sector 0 " ++ (decimal d.block ++ codes "\n"))
+
+-- the line of devices that are not fit
+abbrev pub devices_line : List Shown → List ℕ
+devices_line [] = codes "error devices none\n"
+devices_line (d ∷ []) = device_line d
+devices_line (d ∷ e ∷ others) = codes "error devices unbuilt\n"
+
+-- what is written at each status
+abbrev pub text_of : Status → List Shown → List ℕ → List ℕ
+text_of done handed report = report
+text_of usage handed report = codes "error usage\n"
+text_of text handed report = codes "error text\n"
+text_of source handed report = codes "error source\n"
+text_of sink handed report = report
+text_of folder handed report = codes "error folder\n"
+text_of memory handed report = codes "error memory\n"
+text_of devices handed report = devices_line handed
+text_of other handed report = []
+
+-- what a sink shows at one time
+pub record Output : Type 0 where
+  pub written : Option (List ℕ)
+  pub faults : ℕ
+
+abbrev pub output : {K : Type 0} → SinkGhosts K → K → Output
+output k s = record { written = k.written s; faults = k.sink_faults s }
+
+-- the sink failed, and has a part of the text
+pub record IsCut (old new : Output) (text : List ℕ) : Type 0 where
+  pub rose : Rose old.faults new.faults
+  pub n : ℕ
+  pub some : n ≤ length text
+  pub part : Appends old.written new.written (take n text)
+
+-- what the sink has at each status: the text whole, a part of it, or at `memory` perhaps nothing
+abbrev pub Writes : Status → Output → Output → List ℕ → Type 0
+Writes done old new bytes = Appends old.written new.written bytes
+Writes sink old new bytes = IsCut old new bytes
+Writes memory old new bytes = Appends old.written new.written bytes ⊎ (IsCut old new bytes ⊎ Keeps old.written new.written)
+Writes _ old new bytes = Appends old.written new.written bytes ⊎ IsCut old new bytes
+
+-- how a run ends
+pub record IsOutcome {F S : Type 0} (ask : Request) (old new : Facts F S) (before after : Output) (status : ℕ) : Type 0 where
+  pub report : List ℕ
+  pub leaves : Leaves (status_at status) ask old new report
+  pub writes : Writes (status_at status) before after (text_of (status_at status) old.devices report)
+  pub later : IsLater old new
+
+-- the status of each fault, and its line
+abbrev pub code_of : Fault → ℕ
+code_of Usage = 2
+code_of Text = 3
+code_of Source = 4
+code_of Folder = 6
+code_of Memory = 7
+code_of (Devices refusal) = 10
+
+abbrev pub refusal_line : Refusal → List ℕ
+refusal_line Missing = codes "error devices none\n"
+refusal_line Several = codes "error devices unbuilt\n"
+refusal_line (Block n) = codes "error devices sector 0 " ++ (decimal n ++ codes "\n")
+refusal_line (Size n) = codes "error devices size 0 " ++ (decimal n ++ codes "\n")
+
+abbrev pub line_of : Fault → List ℕ
+line_of Usage = codes "error usage\n"
+line_of Text = codes "error text\n"
+line_of Source = codes "error source\n"
+line_of Folder = codes "error folder\n"
+line_of Memory = codes "error memory\n"
+line_of (Devices refusal) = refusal_line refusal
+
+-- the answer of an acquisition, before anything is written
+abbrev pub IsAnswer : {A F S : Type 0} → Request → Facts F S → Facts F S → Result (String A) Fault → Type 0
+IsAnswer ask old new (Ok report) = Leaves done ask old new (string_bytes report) × IsLater old new
+IsAnswer ask old new (Err fault) =
+    Leaves (status_at (code_of fault)) ask old new [] × (line_of fault ≡ text_of (status_at (code_of fault)) old.devices []) × IsLater old new
+
+-- what is written of an answer, and with what status
+abbrev pub IsTold : {A : Type 0} → Result (String A) Fault → Output → Output → ℕ → Type 0
+IsTold (Ok report) old new status =
+    ((status ≡ 0) × Appends old.written new.written (string_bytes report))
+    ⊎ (((status ≡ 5) × IsCut old new (string_bytes report)) ⊎ ((status ≡ 7) × Keeps old.written new.written))
+IsTold (Err fault) old new status =
+    ((status ≡ code_of fault) × (Appends old.written new.written (line_of fault) ⊎ IsCut old new (line_of fault)))
+    ⊎ ((status ≡ 7) × Keeps old.written new.written)
