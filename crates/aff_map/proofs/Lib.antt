@@ -6,3 +6,9 @@ pub mod InOrder
 pub mod Spots
 pub mod Few
 pub mod Legal
+pub mod Overlaps
+pub mod Refused
+pub mod Covering
+pub mod Lines
+pub mod Leading
+pub mod Reading

@@ -1,7 +1,7 @@
 //! Devices that are refused.
 ghost use Rattle.std.specs.Prelude.{None};
 
-use crate::fixture::{LARGE_WORDS, NONE, Ran, WORDS, run_at};
+use crate::fixture::{LARGE_WORDS, NONE, Ran, WORDS, run_at, wrote};
 use aff_memory::MemorySource;
 use aff_outside::{Device, DeviceFailed, Source};
 use std::alloc::Global;
@@ -77,77 +77,44 @@ fn is_untouched(alloc: Global, ran: &mut Ran) -> Result<bool, Fail> {
     Ok(untouched)
 }
 
-/// The line of refused devices, the same at both commands.
-fn refusal(alloc: Global, sizes: &[(u32, u64)]) -> Result<Vec<u8>, Fail> {
-    let mut written = Vec::new(alloc);
+/// Devices of such blocks and sizes are refused by this line at both commands, and nothing is touched.
+fn is_refused(alloc: Global, sizes: &[(u32, u64)], line: &str) -> Result<(), Fail> {
     for words in [&WORDS, &LARGE_WORDS] {
         let mut ran = run_at(alloc, words, TEXT, blanks(alloc, sizes)?, NONE)?;
-        if ran.status != 10 || !is_untouched(alloc, &mut ran)? {
-            return Err("not refused")?;
+        wrote(&ran, 10, line)?;
+        if !is_untouched(alloc, &mut ran)? {
+            return Err("something was touched")?;
         }
-        written.extend_from_slice(&ran.written)?;
     }
-    let (first, second) = written.split_at(written.len() / 2);
-    if first != second {
-        return Err("two lines")?;
-    }
-    Ok(first.to_vec(alloc)?)
+    Ok(())
 }
 
 #[test]
 fn a_size_of_no_whole_blocks(rt: HostRuntime) -> Result<(), Fail> {
     let alloc = rt.alloc();
-    assert_eq!(rt;
-        refusal(alloc, &[(512, 513)])?.as_slice(),
-        b"error devices size 0 513\n".as_slice()
-    );
-    assert_eq!(rt;
-        refusal(alloc, &[(512, 0)])?.as_slice(),
-        b"error devices size 0 0\n".as_slice()
-    );
-    assert_eq!(rt;
-        refusal(alloc, &[(4_096, 4_608)])?.as_slice(),
-        b"error devices size 0 4608\n".as_slice()
-    );
+    is_refused(alloc, &[(512, 513)], "error devices size 0 513\n")?;
+    is_refused(alloc, &[(512, 0)], "error devices size 0 0\n")?;
+    is_refused(alloc, &[(4_096, 4_608)], "error devices size 0 4608\n")?;
     // One sector more than 2^44 bytes.
-    assert_eq!(rt;
-        refusal(alloc, &[(512, 17_592_186_044_928)])?.as_slice(),
-        b"error devices size 0 17592186044928\n".as_slice()
-    );
-    Ok(())
+    let line = "error devices size 0 17592186044928\n";
+    is_refused(alloc, &[(512, 17_592_186_044_928)], line)
 }
 
 #[test]
 fn another_block(rt: HostRuntime) -> Result<(), Fail> {
     let alloc = rt.alloc();
-    assert_eq!(rt;
-        refusal(alloc, &[(1_024, 4_096)])?.as_slice(),
-        b"error devices sector 0 1024\n".as_slice()
-    );
+    is_refused(alloc, &[(1_024, 4_096)], "error devices sector 0 1024\n")?;
     // The block is told before the size.
-    assert_eq!(rt;
-        refusal(alloc, &[(0, 0)])?.as_slice(),
-        b"error devices sector 0 0\n".as_slice()
-    );
-    Ok(())
+    is_refused(alloc, &[(0, 0)], "error devices sector 0 0\n")
 }
 
 #[test]
 fn another_number_of_devices(rt: HostRuntime) -> Result<(), Fail> {
     let alloc = rt.alloc();
-    assert_eq!(rt;
-        refusal(alloc, &[])?.as_slice(),
-        b"error devices none\n".as_slice()
-    );
-    assert_eq!(rt;
-        refusal(alloc, &[(512, 512), (512, 512)])?.as_slice(),
-        b"error devices unbuilt\n".as_slice()
-    );
-    assert_eq!(rt;
-        refusal(alloc, &[(1_024, 1), (4_096, 0), (512, 513)])?.as_slice(),
-        b"error devices unbuilt\n".as_slice()
-    );
-    Ok(())
+    is_refused(alloc, &[], "error devices none\n")?;
+    let unbuilt = "error devices unbuilt\n";
+    is_refused(alloc, &[(512, 512), (512, 512)], unbuilt)?;
+    is_refused(alloc, &[(1_024, 1), (4_096, 0), (512, 513)], unbuilt)
 }
 
 /// Whether a run at these words ends with status 2, and touches neither the folder, nor the source, nor a device.
@@ -172,15 +139,8 @@ fn other_words(rt: HostRuntime) -> Result<(), Fail> {
 #[test]
 fn the_greatest_size(rt: HostRuntime) -> Result<(), Fail> {
     let alloc = rt.alloc();
-    let ran = run_at(
-        alloc,
-        &LARGE_WORDS,
-        b"extent 1 1 0\n",
-        blanks(alloc, &[(4_096, 17_592_186_044_416)])?,
-        NONE,
-    )?;
+    let devices = blanks(alloc, &[(4_096, 17_592_186_044_416)])?;
+    let ran = run_at(alloc, &LARGE_WORDS, b"extent 1 1 0\n", devices, NONE)?;
     // It is the text that is refused.
-    assert_eq!(rt; ran.status, 3);
-    assert_eq!(rt; ran.folder.calls(), 0);
-    Ok(())
+    wrote(&ran, 3, "error plan 1 sector\n")
 }

@@ -1,6 +1,7 @@
 //! A run over one card in memory.
 ghost use Rattle.std.specs.Prelude.{◌≡◌, IfOk, length};
 
+use aff_fields::{Entry, read_entries};
 use aff_memory::{FixedDevice, MemoryFolder, MemorySink, MemorySource};
 use aff_model::Untold;
 use aff_outside::{Device, OpenGate, read_segment};
@@ -76,7 +77,7 @@ pub fn run_over(
     run_at(alloc, &WORDS, text, devices, faults)
 }
 
-/// Runs at these words over these devices.
+/// Runs at these words over these devices, into an empty folder.
 pub fn run_at(
     alloc: Global,
     words: &[&str],
@@ -84,9 +85,21 @@ pub fn run_at(
     devices: Vec<Box<dyn Device>>,
     faults: Faults,
 ) -> Result<Ran, AllocError> {
+    let folder = MemoryFolder::new(alloc, vec![in alloc; faults.folder]?, Vec::new(alloc));
+    run_into(alloc, words, text, devices, folder, faults)
+}
+
+/// Runs at these words over these devices, into a folder.
+pub fn run_into(
+    alloc: Global,
+    words: &[&str],
+    text: &[u8],
+    devices: Vec<Box<dyn Device>>,
+    folder: MemoryFolder,
+    faults: Faults,
+) -> Result<Ran, AllocError> {
     let mut source = MemorySource::new(text.to_vec(alloc)?, vec![in alloc; faults.source]?);
     let mut sink = MemorySink::new(alloc, vec![in alloc; faults.sink]?);
-    let folder = MemoryFolder::new(alloc, vec![in alloc; faults.folder]?, Vec::new(alloc));
     let End {
         status,
         devices,
@@ -110,6 +123,84 @@ pub fn run_at(
         source,
         folder,
     })
+}
+
+/// The run ended with this status, and wrote exactly this.
+pub fn wrote(ran: &Ran, status: u8, text: &str) -> Result<(), Fail> {
+    if ran.status != status {
+        return Err("another status")?;
+    }
+    if ran.written.as_slice() != text.as_bytes() {
+        return Err("another text")?;
+    }
+    Ok(())
+}
+
+/// The run ended with status 0, and wrote these lines among others.
+pub fn has(ran: &Ran, lines: &[&str]) -> Result<(), Fail> {
+    if ran.status != 0 {
+        return Err("another status")?;
+    }
+    for line in lines {
+        if !has_line(&ran.written, line) {
+            return Err("a line is missing")?;
+        }
+    }
+    Ok(())
+}
+
+/// A segment consists of runs of equal bytes, each with its length.
+pub fn holds(
+    alloc: Global,
+    folder: &mut MemoryFolder,
+    front: &str,
+    name: &str,
+    runs: &[(u8, usize)],
+) -> Result<(), Fail> {
+    let bytes = segment(alloc, folder, front, name)?;
+    let mut rest = bytes.as_slice();
+    for (byte, count) in runs {
+        if *count > rest.len() {
+            return Err("too short")?;
+        }
+        let (run, behind) = rest.split_at(*count);
+        if !run.iter().all(|b| b == byte) {
+            return Err("another byte")?;
+        }
+        rest = behind;
+    }
+    if !rest.is_empty() {
+        return Err("too long")?;
+    }
+    Ok(())
+}
+
+/// The entries of the map, a line each: offset in the image, length, offset in the target, number of the target.
+pub fn entries(alloc: Global, folder: &mut MemoryFolder) -> Result<String, Fail> {
+    let bytes = segment(alloc, folder, IMAGE, "map")?;
+    let entries = match read_entries(alloc, &bytes) {
+        Ok(entries) => entries,
+        Err(_) => return Err("no entries")?,
+    };
+    let mut text = String::new(alloc);
+    for entry in &entries {
+        let Entry {
+            at,
+            len,
+            target_at,
+            target,
+        } = *entry;
+        write!(&mut text, "{at} {len} {target_at} {target}\n")?;
+    }
+    Ok(text)
+}
+
+/// The map has exactly these entries.
+pub fn maps(alloc: Global, folder: &mut MemoryFolder, text: &str) -> Result<(), Fail> {
+    if entries(alloc, folder)?.as_str() != text {
+        return Err("another map")?;
+    }
+    Ok(())
 }
 
 /// The bytes of so many sectors, sector `k` of bytes `k + 1`.

@@ -11,7 +11,11 @@ mod devices;
 #[cfg(test)]
 mod fixture;
 #[cfg(test)]
+mod folders;
+#[cfg(test)]
 mod hashes;
+#[cfg(test)]
+mod plans;
 #[cfg(test)]
 mod tests;
 #[cfg(test)]

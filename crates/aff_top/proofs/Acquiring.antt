@@ -1,8 +1,8 @@
 -- What a run leaves whose extents are stored, all of them or some.
-use Rattle.std.proofs.Common.{◌≡◌, ℕ, ◌≤◌, true, List, ◌++◌, length, map, refl, sym, ap, subst, ◌∙◌, arith}
-use Rattle.std.specs.Prelude.{Bool, None, Option, Some, All, IsTrue, MatchOption}
+use Rattle.std.proofs.Common.{◌≡◌, ℕ, ◌≤◌, true, List, ◌++◌, length, refl, sym, ap, subst, ◌∙◌, arith}
+use Rattle.std.specs.Prelude.{Bool, None, Option, Some, All, Contains, IsTrue, MatchOption}
 use Rattle.std.specs.FinMap.{empty}
-use Rattle.std.specs.List.{range_with_len}
+use Rattle.std.proofs.lemmas.List.{take_all}
 use Rattle.aff_model.specs.declared.extent.Extent.{Extent}
 use Rattle.aff_model.specs.declared.limits.TheConstants.{MAX_CHUNKS}
 use Rattle.aff_model.specs.declared.publication.Place.{Place}
@@ -32,11 +32,13 @@ use Rattle.aff_image.specs.Witnesses.{history_of, kept_chunks}
 use Rattle.aff_image.proofs.Counts.{few_kept}
 use Rattle.aff_image.proofs.Endings.{finished, made-end, reached-end, stopped, stopped_behind, walkable}
 use Rattle.aff_image.proofs.Growth.{reached-still}
-use Rattle.aff_image.proofs.Orders.{in_order-complete}
+use Rattle.aff_image.proofs.Orders.{complete-from_contains}
 use Rattle.aff_image.proofs.Shapes.{HasShape, IsBelow, shaped}
 use Rattle.aff_store.specs.Written.{Written}
 use Rattle.aff_top.specs.Outcomes.{IsCutOff, IsRun, asked}
-use Rattle.aff_top.specs.Stored.{AreStored, AreStoredInPart, blocks_lost}
+use Rattle.aff_plan.specs.Order.{IsOrderOf}
+use Rattle.aff_top.specs.Stored.{AreAllStored, AreStored, AreStoredInPart, IsOwn, blocks_lost}
+use Rattle.aff_top.proofs.Ordered.{has_each}
 
 -- a chunk with a low number leaves room in the stream
 numbered : (p : Place) → IsBelow MAX_CHUNKS p → IsNumbered p
@@ -61,11 +63,17 @@ module _ (case : Option Content) (plan : Planned) (is_plan : IsPlan plan.size pl
 
   -- all extents are stored
   module _ (ok : is_uuid uuid ≡ true) (old mid : Held) (none : IsTrue tells → old ≡ empty) (w : Written) (before now : ℕ) (history : List Published)
-      (stored : AreStored case plan (length plan.extents) tells (stream_urn uuid) old mid w before now history) where
+      (all : AreAllStored case plan tells (stream_urn uuid) old mid w before now history) where
+    abbrev pub stored : AreStored case plan all.order (length all.order) tells (stream_urn uuid) old mid w before now history
+    stored = all.stored
+
+    in_order : extents_of history ≡ all.order
+    in_order = stored.in_order ∙ take_all (length all.order) all.order (omega arith)
+
     complete : IsComplete plan.extents (history_of stored.readings)
     complete =
-        in_order-complete plan.extents (history_of stored.readings)
-        (subst (λ h. extents_of h ≡ range_with_len 0 (length plan.extents)) (sym stored.history_is) stored.in_order)
+        complete-from_contains plan.extents (history_of stored.readings)
+        (λ k below. subst (λ h. Contains (extents_of h) k) (sym stored.history_is) (subst (λ v. Contains v k) (sym in_order) (has_each plan.extents all.order all.ordered k below)))
 
     pub mappable : AreMappable plan.extents history
     mappable = subst (AreMappable plan.extents) stored.history_is (record {
@@ -119,7 +127,8 @@ module _ (case : Option Content) (plan : Planned) (is_plan : IsPlan plan.size pl
             bytes = bytes;
             finished = m.2;
             hashed_is = refl;
-            in_order = subst (λ h. map (λ p. p.extent) h ≡ range_with_len 0 (length plan.extents)) (sym same) stored.in_order;
+            order = subst (λ h. IsOrderOf plan.extents (extents_of h)) (sym same) (subst (IsOrderOf plan.extents) (sym in_order) all.ordered);
+            own = subst (All IsOwn) (sym same) stored.own;
             is_report = is_text ∙ ap (λ v. v ++ linear_lines bytes) (is_report ∙ ap (report_text uuid plan.size (length plan.extents)) (sym same));
             counted = subst (λ h. RoseBy (blocks_lost plan.block h) before now) (sym same) stored.counted;
           }

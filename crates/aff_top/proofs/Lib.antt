@@ -1,11 +1,12 @@
 pub mod Acquiring
-pub mod Digits
 pub mod Endings
 pub mod FirstPlaces
 pub mod FourWords
 pub mod Making
+pub mod NoScript
 pub mod OneDevice
+pub mod Ordered
 pub mod Outcome
-pub mod PlanTexts
+pub mod Segmentless
 pub mod Storing
 pub mod Taking

@@ -4,7 +4,7 @@ use Rattle.std.specs.Prelude.{Option, IfSome, IfNone, slice_index_or}
 use Rattle.aff_model.specs.Content.{IsBlock}
 use Rattle.aff_spec.specs.Words.{IsDeviceSize}
 use Rattle.aff_model.specs.Plan.{Planned, IsPlan}
-use Rattle.aff_spec.specs.PlanText.{IsPlanText}
+use Rattle.aff_top.specs.Texts.{IsRunText}
 use Rattle.aff_top.specs.Outcomes.{Shown, IsFit, IsPlanned, device_line, devices_line, first_faults, refusal_line}
 use Rattle.aff_top.specs.declared.fault.Refusal.{Refusal}
 
@@ -68,11 +68,11 @@ module _ {D : Type 0} (f : D → Shown) where
 
 -- a plan of a text for the one device
 pub planned_for : (devices : List Shown) (fit : IsFit devices) (left : Option (List ℕ)) (plan : Planned) (size block : ℕ) → size ≡ fit.device.size → block ≡ fit.device.block
-    → plan.size ≡ size → plan.block ≡ block → IsPlan size block plan.extents → IfSome left (IsPlanText size block plan.extents) → IsPlanned devices left plan
+    → plan.size ≡ size → plan.block ≡ block → IsPlan size block plan.extents → IfSome left (IsRunText size block plan.extents) → IsPlanned devices left plan
 planned_for devices fit left plan size block size_is block_is is_size is_block is_plan is_text = record {
   fit = fit;
   size = is_size ∙ size_is;
   block = is_block ∙ block_is;
   is_plan = subst₂ (λ s b. IsPlan s b plan.extents) (sym is_size) (sym is_block) is_plan;
-  is_text = subst₂ (λ s b. IfSome left (IsPlanText s b plan.extents)) (sym is_size) (sym is_block) is_text;
+  is_text = subst₂ (λ s b. IfSome left (IsRunText s b plan.extents)) (sym is_size) (sym is_block) is_text;
 }

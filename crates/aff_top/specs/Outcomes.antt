@@ -1,8 +1,8 @@
 -- How a run may end.
-use Rattle.std.specs.Prelude.{String, ◌≡◌, ◌⊎◌, ◌≤◌, ◌<◌, ℕ, Bool, List, [], ◌∷◌, ◌++◌, length, map, slice_index_or, take, codes, Option, Result, Ok, Err, IfSome, if◌then◌else◌, ◌==◌}
+use Rattle.std.specs.Prelude.{String, ◌≡◌, ◌⊎◌, ◌≤◌, ◌<◌, ℕ, Bool, List, [], ◌∷◌, ◌++◌, All, IsTrue, length, map, slice_index_or, take, codes, Option, Result, Ok, Err, IfSome, if◌then◌else◌, ◌==◌}
 use Rattle.std.specs.String.{string_bytes}
 use Rattle.std.specs.Fmt.{decimal}
-use Rattle.std.specs.List.{range_with_len}
+use Rattle.std.specs.FinMap.{empty}
 use Rattle.std.specs.Io.KnownBytes.{Appends, Keeps, IsAtEnd}
 use Rattle.aff_model.specs.declared.limits.TheConstants.{SECTOR, LARGE_BLOCK}
 use Rattle.aff_model.specs.Causes.{Rose}
@@ -14,17 +14,19 @@ use Rattle.aff_outside.specs.declared.text.Source.{Ghosts as SourceGhosts}
 use Rattle.aff_outside.specs.declared.text.Sink.{Ghosts as SinkGhosts}
 use Rattle.aff_device.specs.Around.{RoseBy}
 use Rattle.aff_spec.specs.Digests.{linear_lines}
-use Rattle.aff_spec.specs.PlanText.{IsPlanText, IsRefusedText}
+use Rattle.aff_plan.specs.Order.{IsOrderOf}
 use Rattle.aff_spec.specs.Report.{report_text}
 use Rattle.aff_spec.specs.Words.{IsAcquire, IsDeviceSize, uuid_of}
 use Rattle.aff_image.specs.Finished.{Asked, IsFinished, IsStopped}
 use Rattle.aff_image.specs.Hashes.{Hashed, linear_of}
 use Rattle.aff_image.specs.Image.{Image}
-use Rattle.aff_top.specs.Stored.{blocks_lost}
+use Rattle.aff_top.specs.Stored.{IsOwn, blocks_lost}
+use Rattle.aff_top.specs.Texts.{IsRunText, IsTextRefused, text_line}
 use Rattle.aff_top.specs.declared.fault.Fault.{Fault}
-use Rattle.aff_top.specs.declared.fault.Fault.TheVariants.{Usage, Devices, Source, Text, Folder, Memory}
+use Rattle.aff_top.specs.declared.fault.Fault.TheVariants.{Usage, Devices, Occupied, Source, Text, Folder, Memory}
 use Rattle.aff_top.specs.declared.fault.Refusal.{Refusal}
 use Rattle.aff_top.specs.declared.fault.Refusal.TheVariants.{Missing, Several, Block, Size}
+use Rattle.aff_top.specs.declared.fault.TextFault.{TextFault}
 
 -- what is asked: the words, with what is told of the device's content, and whether the folder tells what it holds
 pub record Request : Type 0 where
@@ -45,9 +47,10 @@ pub record Shown : Type 0 where
 abbrev pub shown : Option Content → ℕ → ℕ → ℕ → Shown
 shown content block size faults = record { content = content; block = block; size = size; faults = faults }
 
--- what a run is handed, and what it shows at one time
-pub record Facts (F S : Type 0) : Type 0 where
+-- what a run is handed, and what it shows at one time: the devices as they show and as they are, the folder, the source
+pub record Facts (F S D : Type 0) : Type 0 where
   pub devices : List Shown
+  pub handed : D
   pub folder : F
   pub source : S
   pub held : Held
@@ -55,9 +58,9 @@ pub record Facts (F S : Type 0) : Type 0 where
   pub left : Option (List ℕ)
   pub source_faults : ℕ
 
-abbrev pub facts : {F R P S : Type 0} → FolderGhosts F R P → SourceGhosts S → List Shown → F → S → Facts F S
-facts f s devices folder source =
-    record { devices = devices; folder = folder; source = source; held = f.held folder; folder_faults = f.folder_faults folder; left = s.left source; source_faults = s.source_faults source }
+abbrev pub facts : {F R P S D : Type 0} → FolderGhosts F R P → SourceGhosts S → List Shown → D → F → S → Facts F S D
+facts f s devices handed folder source =
+    record { devices = devices; handed = handed; folder = folder; source = source; held = f.held folder; folder_faults = f.folder_faults folder; left = s.left source; source_faults = s.source_faults source }
 
 -- the words are those of an acquisition, with blocks of either size
 abbrev pub AreAcquire : List (List ℕ) → Type 0
@@ -71,24 +74,40 @@ pub record IsFit (devices : List Shown) : Type 0 where
   pub accepted : IsDeviceSize device.block device.size
 
 -- an acquisition is asked, from a device that is fit
-pub record IsTaken {F S : Type 0} (ask : Request) (old : Facts F S) : Type 0 where
+pub record IsTaken {F S D : Type 0} (ask : Request) (old : Facts F S D) : Type 0 where
   pub words : AreAcquire ask.words
   pub devices : IsFit old.devices
+
+-- and into a folder that has no segment, where it tells
+pub record IsBegun {F S D : Type 0} (ask : Request) (old : Facts F S D) : Type 0 where
+  pub taken : IsTaken ask old
+  pub free : IsTrue ask.tells → old.held ≡ empty
+
+-- the folder has a segment, where it tells
+abbrev pub IsOccupied : {F S D : Type 0} → Request → Facts F S D → Type 0
+IsOccupied ask old = IsTrue ask.tells → ¬ (old.held ≡ empty)
+
+-- no device was called, and a folder that tells holds what it held
+pub record IsUntouched {F S D : Type 0} (ask : Request) (old new : Facts F S D) : Type 0 where
+  pub devices : new.devices ≡ old.devices
+  pub handed : new.handed ≡ old.handed
+  pub held : IsTrue ask.tells → new.held ≡ old.held
 
 -- what the one worker of an acquisition is asked for
 abbrev pub asked : List ℕ → Planned → Asked
 asked uuid plan = record { uuid = uuid; plan = plan; workers = 1; examiners = 0 }
 
--- A plan was acquired: the folder is the finished volume of an image of it, whose history has the extents in the plan's order;
--- the report is that of the history with the image's linear hashes; and the device's count rose by at least the number of
--- blocks that are unreadable.
+-- A plan was acquired: the folder is the finished volume of an image of it, whose history has the extents by falling priority
+-- and then by rising offset, each read by worker 0 for itself; the report is that of the history with the image's linear
+-- hashes; and the device's count rose by at least the number of blocks that are unreadable.
 pub record IsRun (case : Option Content) (tells : Bool) (uuid : List ℕ) (plan : Planned) (before now : ℕ) (held : Held) (report : List ℕ) : Type 0 where
   pub image : Image
   pub hashed : Hashed
   pub bytes : List ℕ
   pub finished : IsFinished case tells (asked uuid plan) image held hashed
   pub hashed_is : hashed.linear ≡ linear_of bytes
-  pub in_order : map (λ p. p.extent) image.history ≡ range_with_len 0 (length plan.extents)
+  pub order : IsOrderOf plan.extents (map (λ p. p.extent) image.history)
+  pub own : All IsOwn image.history
   pub is_report : report ≡ report_text uuid plan.size (length plan.extents) image.history ++ linear_lines bytes
   pub counted : RoseBy (blocks_lost plan.block image.history) before now
 
@@ -108,25 +127,27 @@ pub record IsPlanned (devices : List Shown) (left : Option (List ℕ)) (plan : P
   pub size : plan.size ≡ fit.device.size
   pub block : plan.block ≡ fit.device.block
   pub is_plan : IsPlan plan.size plan.block plan.extents
-  pub is_text : IfSome left (IsPlanText plan.size plan.block plan.extents)
+  pub is_text : IfSome left (IsRunText plan.size plan.block plan.extents)
 
 -- the run's plan was acquired, with this report; the source was read to its end
-pub record IsDone {F S : Type 0} (ask : Request) (old new : Facts F S) (report : List ℕ) : Type 0 where
+pub record IsDone {F S D : Type 0} (ask : Request) (old new : Facts F S D) (report : List ℕ) : Type 0 where
   pub plan : Planned
   pub planned : IsPlanned old.devices old.left plan
   pub whole : IsAtEnd new.left
   pub run : IsRun ask.case ask.tells (uuid_of ask.words) plan (first_faults old.devices) (first_faults new.devices) new.held report
 
 -- the run's plan was not acquired whole
-pub record IsPart {F S : Type 0} (ask : Request) (old new : Facts F S) : Type 0 where
+pub record IsPart {F S D : Type 0} (ask : Request) (old new : Facts F S D) : Type 0 where
   pub plan : Planned
   pub planned : IsPlanned old.devices old.left plan
   pub cut_off : IsCutOff ask.case ask.tells (uuid_of ask.words) plan new.held
 
--- the text is that of no plan for the one device
-pub record IsRefused {F S : Type 0} (old : Facts F S) : Type 0 where
+-- the text is refused for the one device, by this line
+pub record IsRefused {F S D : Type 0} (old : Facts F S D) (line : List ℕ) : Type 0 where
   pub fit : IsFit old.devices
-  pub text : IfSome old.left (IsRefusedText fit.device.size fit.device.block)
+  pub fault : TextFault
+  pub says : line ≡ text_line fault
+  pub text : IfSome old.left (λ text. IsTextRefused fit.device.size fit.device.block text fault)
 
 -- the devices as they come back: contents, blocks and sizes stay, and counts do not fall
 pub record AreKept {D : Type 0} (content : D → Option Content) (block size faults : D → ℕ) (old new : List D) : Type 0 where
@@ -137,7 +158,7 @@ pub record AreKept {D : Type 0} (content : D → Option Content) (block size fau
   pub rising : (k : ℕ) (d : D) → k < length old → faults (slice_index_or old k d) ≤ faults (slice_index_or new k d)
 
 -- counts do not fall
-pub record IsLater {F S : Type 0} (old new : Facts F S) : Type 0 where
+pub record IsLater {F S D : Type 0} (old new : Facts F S D) : Type 0 where
   pub folder : old.folder_faults ≤ new.folder_faults
   pub source : old.source_faults ≤ new.source_faults
 
@@ -150,6 +171,7 @@ pub data Status : Type 0 where
   sink : Status
   folder : Status
   memory : Status
+  occupied : Status
   devices : Status
   other : Status
 
@@ -162,17 +184,20 @@ status_at n =
     else (if n == 5 then sink
     else (if n == 6 then folder
     else (if n == 7 then memory
-    else (if n == 10 then devices else other)))))))
+    else (if n == 8 then occupied
+    else (if n == 10 then devices else other))))))))
 
--- why each status comes, and what it leaves; at `done` and `sink` with this report
-abbrev pub Leaves : {F S : Type 0} → Status → Request → Facts F S → Facts F S → List ℕ → Type 0
-Leaves done ask old new report = IsTaken ask old × IsDone ask old new report
+-- why each status comes, and what it leaves; at `done` and `sink` with this report, at `text` with this line
+abbrev pub Leaves : {F S D : Type 0} → Status → Request → Facts F S D → Facts F S D → List ℕ → Type 0
+Leaves done ask old new report = IsBegun ask old × IsDone ask old new report
 Leaves usage ask old new report = (¬ (AreAcquire ask.words)) × (new ≡ old)
-Leaves text ask old new report = IsTaken ask old × IsRefused old × (new.folder ≡ old.folder) × (new.devices ≡ old.devices)
-Leaves source ask old new report = IsTaken ask old × Rose old.source_faults new.source_faults × (new.folder ≡ old.folder) × (new.devices ≡ old.devices)
-Leaves sink ask old new report = IsTaken ask old × IsDone ask old new report
-Leaves folder ask old new report = IsTaken ask old × Rose old.folder_faults new.folder_faults × IsPart ask old new
-Leaves memory ask old new report = (new.folder ≡ old.folder) ⊎ (IsPart ask old new ⊎ ((whole : List ℕ) × IsDone ask old new whole))
+Leaves text ask old new line = IsBegun ask old × IsRefused old line × IsUntouched ask old new
+Leaves source ask old new report = IsBegun ask old × Rose old.source_faults new.source_faults × IsUntouched ask old new
+Leaves sink ask old new report = IsBegun ask old × IsDone ask old new report
+Leaves folder ask old new report =
+    IsTaken ask old × Rose old.folder_faults new.folder_faults × ((IsUntouched ask old new × (new.source ≡ old.source)) ⊎ (IsBegun ask old × IsPart ask old new))
+Leaves memory ask old new report = (IsTrue ask.tells → new.held ≡ old.held) ⊎ (IsPart ask old new ⊎ ((whole : List ℕ) × IsDone ask old new whole))
+Leaves occupied ask old new report = IsTaken ask old × IsOccupied ask old × IsUntouched ask old new × (new.source ≡ old.source)
 Leaves devices ask old new report = AreAcquire ask.words × (¬ (IsFit old.devices)) × (new ≡ old)
 Leaves other ask old new report = ⊥
 
@@ -193,11 +218,12 @@ devices_line (d ∷ e ∷ others) = codes "error devices unbuilt\n"
 abbrev pub text_of : Status → List Shown → List ℕ → List ℕ
 text_of done handed report = report
 text_of usage handed report = codes "error usage\n"
-text_of text handed report = codes "error text\n"
+text_of text handed line = line
 text_of source handed report = codes "error source\n"
 text_of sink handed report = report
 text_of folder handed report = codes "error folder\n"
 text_of memory handed report = codes "error memory\n"
+text_of occupied handed report = codes "error occupied\n"
 text_of devices handed report = devices_line handed
 text_of other handed report = []
 
@@ -224,7 +250,7 @@ Writes memory old new bytes = Appends old.written new.written bytes ⊎ (IsCut o
 Writes _ old new bytes = Appends old.written new.written bytes ⊎ IsCut old new bytes
 
 -- how a run ends
-pub record IsOutcome {F S : Type 0} (ask : Request) (old new : Facts F S) (before after : Output) (status : ℕ) : Type 0 where
+pub record IsOutcome {F S D : Type 0} (ask : Request) (old new : Facts F S D) (before after : Output) (status : ℕ) : Type 0 where
   pub report : List ℕ
   pub leaves : Leaves (status_at status) ask old new report
   pub writes : Writes (status_at status) before after (text_of (status_at status) old.devices report)
@@ -233,10 +259,11 @@ pub record IsOutcome {F S : Type 0} (ask : Request) (old new : Facts F S) (befor
 -- the status of each fault, and its line
 abbrev pub code_of : Fault → ℕ
 code_of Usage = 2
-code_of Text = 3
+code_of (Text fault) = 3
 code_of Source = 4
 code_of Folder = 6
 code_of Memory = 7
+code_of Occupied = 8
 code_of (Devices refusal) = 10
 
 abbrev pub refusal_line : Refusal → List ℕ
@@ -247,17 +274,18 @@ refusal_line (Size n) = codes "error devices size 0 " ++ (decimal n ++ codes "\n
 
 abbrev pub line_of : Fault → List ℕ
 line_of Usage = codes "error usage\n"
-line_of Text = codes "error text\n"
+line_of (Text fault) = text_line fault
 line_of Source = codes "error source\n"
 line_of Folder = codes "error folder\n"
 line_of Memory = codes "error memory\n"
+line_of Occupied = codes "error occupied\n"
 line_of (Devices refusal) = refusal_line refusal
 
 -- the answer of an acquisition, before anything is written
-abbrev pub IsAnswer : {A F S : Type 0} → Request → Facts F S → Facts F S → Result (String A) Fault → Type 0
+abbrev pub IsAnswer : {A F S D : Type 0} → Request → Facts F S D → Facts F S D → Result (String A) Fault → Type 0
 IsAnswer ask old new (Ok report) = Leaves done ask old new (string_bytes report) × IsLater old new
 IsAnswer ask old new (Err fault) =
-    Leaves (status_at (code_of fault)) ask old new [] × (line_of fault ≡ text_of (status_at (code_of fault)) old.devices []) × IsLater old new
+    Leaves (status_at (code_of fault)) ask old new (line_of fault) × (line_of fault ≡ text_of (status_at (code_of fault)) old.devices (line_of fault)) × IsLater old new
 
 -- what is written of an answer, and with what status
 abbrev pub IsTold : {A : Type 0} → Result (String A) Fault → Output → Output → ℕ → Type 0

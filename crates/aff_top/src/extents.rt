@@ -1,15 +1,18 @@
-//! The extents of a plan, read and stored one after another.
-ghost use Rattle.std.specs.Prelude.{◌≡◌, ◌⊎◌, ◌+◌, ◌<◌, ◌≤◌, ◌^◌, [], false, length, map, IfOk, IfErr, OnErr, IfSome, IsErrOf, IsTrue};
+//! The extents of a plan, read and stored by falling priority.
+ghost use Rattle.std.specs.Prelude.{◌≡◌, ◌⊎◌, ◌+◌, ◌<◌, ◌≤◌, ◌^◌, [], false, length, map, slice_index_or, IfOk, IfErr, OnErr, IfSome, IsErrOf, IsTrue};
+ghost use Rattle.aff_model.specs.declared.extent.Extent.{Extent};
 ghost use Rattle.aff_model.specs.Causes.{HasCause};
 ghost use Rattle.aff_model.specs.Content.{IsBlock};
 ghost use Rattle.aff_model.specs.Pieces.{published};
 ghost use Rattle.aff_model.specs.Plan.{IsExtent, IsPlan};
-ghost use Rattle.aff_top.specs.Stored.{AreStored, AreStoredInPart, IsTaken, IsTakenInPart};
+ghost use Rattle.aff_plan.specs.Order.{IsOrderOf};
+ghost use Rattle.aff_top.specs.Stored.{AreAllStored, AreStored, AreStoredInPart, IsTaken, IsTakenInPart};
 
 use crate::fault::{Fault, fault_of_folder};
 use aff_extent::ExtentReader;
 use aff_model::{Case, Extent, MAX_CHUNKS, Piece, Plan};
 use aff_outside::{Device, Folder};
+use aff_plan::order;
 use aff_store::Stream;
 use std::alloc::Global;
 use std::sync::Arc;
@@ -53,10 +56,19 @@ fn store_extent<F: Folder>(
     }
 }
 
-/// Reads the extents of a plan in its order, appends their stored chunks to the stream, and answers their pieces.
-pub fn store_extents<C: Case, F: Folder>(
+// The extent with a number of an order.
+fn extent_of(extents: &[Extent], number: u32) -> &Extent
+    requires { number < length extents.now }
+    ensures { (d : Extent) → result.now ≡ slice_index_or extents.now number d }
+{
+    &extents[number as usize]
+}
+
+// Reads the extents of a plan in an order, appends their stored chunks to the stream, and answers their pieces.
+fn store_in_order<C: Case, F: Folder>(
     alloc: Global,
     plan: &Plan,
+    order: &[u32],
     device: &mut dyn Device,
     folder: &mut F,
     stream: &mut Stream,
@@ -64,11 +76,11 @@ pub fn store_extents<C: Case, F: Folder>(
     requires told { IfSome C.content (λ c. device_content device.old ≡ Some c) }
     requires size { plan.now.size ≡ device_size device.old }
     requires block { plan.now.block ≡ device_block device.old }
+    requires ordered { IsOrderOf plan.now.extents order.now }
     requires chunks { stream.old.chunks ≡ [] }
     requires going { stream.old.ended ≡ false }
-    ensures ok { IfOk result (λ pieces. AreStored C.content plan.now (length plan.now.extents) F.tells stream.old.urn
+    ensures ok { IfOk result (λ pieces. AreStored C.content plan.now order.now (length order.now) F.tells stream.old.urn
         (F.held folder.old) (F.held folder.new) stream.new (device_faults device.old) (device_faults device.new) (map published pieces.items)) }
-    ensures plan { IsPlan plan.now.size plan.now.block plan.now.extents }
     ensures part { OnErr result (AreStoredInPart C.content plan.now F.tells stream.old.urn (F.held folder.old) (F.held folder.new)) }
     ensures content { device_content device.new ≡ device_content device.old }
     ensures block { device_block device.new ≡ device_block device.old }
@@ -82,24 +94,46 @@ pub fn store_extents<C: Case, F: Folder>(
         Ok(reader) => reader,
         Err(_) => return Err(Fault::Memory),
     };
-    let mut pieces = match Vec::with_capacity(alloc, extents.len()) {
+    let mut pieces = match Vec::with_capacity(alloc, order.len()) {
         Ok(pieces) => pieces,
         Err(_) => return Err(Fault::Memory),
     };
-    for (number, extent) in extents.iter().enumerate() {
-        let outcome = store_extent(
-            alloc,
-            &mut reader,
-            device,
-            folder,
-            stream,
-            number as u32,
-            extent,
-        );
+    for number in order {
+        let extent = extent_of(extents, *number);
+        let outcome = store_extent(alloc, &mut reader, device, folder, stream, *number, extent);
         match outcome {
             Ok(piece) => pieces.push_reserved(piece),
             Err(fault) => return Err(fault),
         }
     }
     Ok(pieces)
+}
+
+/// Reads the extents of a plan by falling priority and then by rising offset, appends their stored chunks to the stream, and answers their pieces.
+pub fn store_extents<C: Case, F: Folder>(
+    alloc: Global,
+    plan: &Plan,
+    device: &mut dyn Device,
+    folder: &mut F,
+    stream: &mut Stream,
+) -> Result<Vec<Arc<Piece<F::Receipt>>>, Fault>
+    requires told { IfSome C.content (λ c. device_content device.old ≡ Some c) }
+    requires size { plan.now.size ≡ device_size device.old }
+    requires block { plan.now.block ≡ device_block device.old }
+    requires chunks { stream.old.chunks ≡ [] }
+    requires going { stream.old.ended ≡ false }
+    ensures ok { IfOk result (λ pieces. AreAllStored C.content plan.now F.tells stream.old.urn
+        (F.held folder.old) (F.held folder.new) stream.new (device_faults device.old) (device_faults device.new) (map published pieces.items)) }
+    ensures part { OnErr result (AreStoredInPart C.content plan.now F.tells stream.old.urn (F.held folder.old) (F.held folder.new)) }
+    ensures content { device_content device.new ≡ device_content device.old }
+    ensures block { device_block device.new ≡ device_block device.old }
+    ensures size { device_size device.new ≡ device_size device.old }
+    ensures later { device_faults device.old ≤ device_faults device.new }
+    ensures folder { HasCause (F.folder_faults folder.old) (F.folder_faults folder.new) (IsErrOf result Fault.Folder) }
+    ensures fault { IfErr result (λ e. (e ≡ Fault.Folder) ⊎ (e ≡ Fault.Memory)) }
+{
+    match order(alloc, plan) {
+        Ok(order) => store_in_order::<C, F>(alloc, plan, &order, device, folder, stream),
+        Err(_) => Err(Fault::Memory),
+    }
 }

@@ -4,6 +4,7 @@ ghost use Rattle.aff_top.specs.declared.fault.Fault.TheVariants.{Memory};
 
 use aff_model::Memory as NoMemory;
 use aff_outside::FolderError;
+use aff_plan::PlanError;
 use std::alloc::{AllocError, AllocFailed};
 
 /// Why the devices that were handed in are refused.
@@ -19,14 +20,27 @@ pub enum Refusal {
     Size(u64),
 }
 
-/// The first fault of a run, in the order in which a run goes: the words, the devices that were handed in,
-/// the source, its text, the folder. `Memory` can come anywhere.
+/// Why the text of a source is refused.
+#[derive(Clone, Copy, Debug, PartialEq, Eq)]
+pub enum TextFault {
+    /// It has more than 16,777,216 bytes.
+    TooLong,
+    /// It is no plan's.
+    Plan(PlanError),
+    /// A script begins at this line, and no script is taken yet.
+    Script(u64),
+}
+
+/// The first fault of a run, in the order in which a run goes: the words, the devices that were handed in, the folder
+/// as it was found, the source, its text, the folder as it is written. `Memory` can come anywhere.
 #[derive(Clone, Copy, Debug, PartialEq, Eq)]
 pub enum Fault {
     Usage,
     Devices(Refusal),
+    /// The folder has a segment.
+    Occupied,
     Source,
-    Text,
+    Text(TextFault),
     Folder,
     Memory,
 }

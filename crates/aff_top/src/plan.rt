@@ -1,67 +1,44 @@
 //! The plan that a text is.
-ghost use Rattle.std.specs.Prelude.{◌≡◌, ◌≢◌, ◌⊎◌, ◌≤◌, ◌<◌, List, length, All, IfOk, IfErr, IfSome, IfNone, IsErrOf};
-ghost use Rattle.std.specs.List.{AllByRecursion};
-ghost use Rattle.aff_model.specs.declared.extent.Extent.{Extent};
+ghost use Rattle.std.specs.Prelude.{◌≡◌, ◌≢◌, ◌⊎◌, IfOk, IfErr, IfSome, IsErrOf};
+ghost use Rattle.std.specs.Io.KnownBytes.{IsAtEnd};
 ghost use Rattle.aff_model.specs.Causes.{HasCause};
 ghost use Rattle.aff_model.specs.Content.{IsBlock};
 ghost use Rattle.aff_model.specs.Plan.{IsPlan};
-ghost use Rattle.aff_spec.specs.PlanText.{FitsExtent, plan_text, IsPlanText, IsRefusedText};
-ghost use Rattle.std.specs.Io.KnownBytes.{IsAtEnd};
+ghost use Rattle.aff_top.specs.Texts.{IsRefusedAs, IsRefusedFrom, IsRunText};
 
-use crate::fault::Fault;
-use crate::line::{read_line, split_line};
+use crate::fault::{Fault, TextFault};
 use crate::source::read_text;
-use aff_model::{Extent, MAX_TEXT, Plan, PlanFault};
+use aff_model::{MAX_TEXT, Plan};
 use aff_outside::Source;
-use std::alloc::{AllocError, Global};
+use aff_plan::{PlanError, script_line};
+use std::alloc::Global;
 
-/// Reads a text that is the lines of some extents, and no other.
-fn read_extents(alloc: Global, text: &[u8]) -> Result<Option<Vec<Extent>>, AllocError>
-    ensures some { IfOk result (λ o. IfSome o (λ extents. text.now ≡ plan_text extents.items)) }
-    ensures fit { IfOk result (λ o. IfSome o (λ extents. AllByRecursion FitsExtent extents.items)) }
-    ensures none { IfOk result (λ o. IfNone o ((extents : List Extent) → AllByRecursion FitsExtent extents → text.now ≢ plan_text extents)) }
+// What a refused text is to a run.
+fn fault_of(error: PlanError) -> Fault
+    ensures { ((error ≡ PlanError.Memory) × (result ≡ Fault.Memory)) ⊎ ((error ≢ PlanError.Memory) × (result ≡ Fault.Text (TextFault.Plan error))) }
 {
-    let mut extents = Vec::new(alloc);
-    let mut rest = text;
-    'lines: while !rest.is_empty() {
-        let Some((line, others)) = split_line(rest) else {
-            return Ok(None);
-        };
-        let Some(extent) = read_line(alloc, line)? else {
-            return Ok(None);
-        };
-        extents.push(extent)?;
-        rest = others;
-    }
-    Ok(Some(extents))
-}
-
-/// What a refused list of extents is to a run.
-fn fault_of(fault: PlanFault) -> Fault
-    ensures memory { result ≡ Fault.Memory → fault ≡ PlanFault.Memory }
-    ensures text { result ≡ Fault.Text → fault ≢ PlanFault.Memory }
-    ensures only { (result ≡ Fault.Text) ⊎ (result ≡ Fault.Memory) }
-{
-    match fault {
-        PlanFault::Memory => Fault::Memory,
-        _ => Fault::Text,
+    match error {
+        PlanError::Memory => Fault::Memory,
+        error => Fault::Text(TextFault::Plan(error)),
     }
 }
 
-/// The plan of a text, over a device of a size and a block in bytes.
+// The plan of a text, over a device of a size and a block in bytes.
 fn plan_of(alloc: Global, text: &[u8], size: u64, block: u32) -> Result<Plan, Fault>
-    requires short { length text.now ≤ MAX_TEXT }
     requires block { IsBlock block }
-    ensures plan { IfOk result (λ p. IsPlanText size block p.extents text.now × (p.size ≡ size) × (p.block ≡ block)) }
-    ensures refused { IsErrOf result Fault.Text → IsRefusedText size block text.now }
-    ensures fault { IfErr result (λ e. (e ≡ Fault.Text) ⊎ (e ≡ Fault.Memory)) }
+    ensures plan { IfOk result (λ p. IsRunText size block p.extents text.now × (p.size ≡ size) × (p.block ≡ block)) }
+    ensures refused { IfErr result (λ e. (e ≡ Fault.Memory) ⊎ IsRefusedAs size block text.now e) }
 {
-    let Some(extents) = read_extents(alloc, text)? else {
-        return Err(Fault::Text);
+    if text.len() > MAX_TEXT {
+        return Err(Fault::Text(TextFault::TooLong));
+    }
+    let plan = match aff_plan::read_plan(alloc, text, size, block) {
+        Ok(plan) => plan,
+        Err(error) => return Err(fault_of(error)),
     };
-    match Plan::of(alloc, extents, size, block) {
-        Ok(plan) => Ok(plan),
-        Err(fault) => Err(fault_of(fault)),
+    match script_line(text) {
+        Some(line) => Err(Fault::Text(TextFault::Script(line))),
+        None => Ok(plan),
     }
 }
 
@@ -74,15 +51,14 @@ pub fn read_plan<S: Source>(
 ) -> Result<Plan, Fault>
     requires block { IsBlock block }
     ensures plan { IfOk result (λ p. IsPlan size block p.extents × (p.size ≡ size) × (p.block ≡ block)) }
-    ensures text { IfOk result (λ p. IfSome (S.left source.old) (IsPlanText size block p.extents)) }
+    ensures text { IfOk result (λ p. IfSome (S.left source.old) (IsRunText size block p.extents)) }
     ensures whole { IfOk result (λ _. IsAtEnd (S.left source.new)) }
-    ensures refused { IsErrOf result Fault.Text → IfSome (S.left source.old) (IsRefusedText size block) }
     ensures cause { HasCause (S.source_faults source.old) (S.source_faults source.new) (IsErrOf result Fault.Source) }
-    ensures fault { IfErr result (λ e. (e ≡ Fault.Source) ⊎ (e ≡ Fault.Memory) ⊎ (e ≡ Fault.Text)) }
+    ensures refused { IfErr result (λ e. (e ≡ Fault.Source) ⊎ ((e ≡ Fault.Memory) ⊎ IsRefusedFrom size block (S.left source.old) e)) }
 {
-    let text = read_text(alloc, source)?;
-    if text.len() > MAX_TEXT {
-        return Err(Fault::Text);
-    }
+    let text = match read_text(alloc, source) {
+        Ok(text) => text,
+        Err(fault) => return Err(fault),
+    };
     plan_of(alloc, &text, size, block)
 }

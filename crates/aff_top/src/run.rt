@@ -12,6 +12,7 @@ use crate::devices::{first_block, first_size, refused};
 use crate::fault::Fault;
 use crate::plan::read_plan;
 use crate::tell::tell;
+use crate::vacant::look_into;
 use crate::wanted::Outside;
 use crate::words::acquisition;
 use aff_model::{Case, MAX_SIZE, Plan};
@@ -73,10 +74,7 @@ fn acquire_first<C: Case, F: Folder>(
     ensures sizes { (k : ℕ) (d : _) → k < length devices.old.items → device_size (slice_index_or devices.new.items k d) ≡ device_size (slice_index_or devices.old.items k d) }
     ensures rising { (k : ℕ) (d : _) → k < length devices.old.items → device_faults (slice_index_or devices.old.items k d) ≤ device_faults (slice_index_or devices.new.items k d) }
 {
-    match acquire::<C, F>(alloc, uuid, plan, &mut *devices[0], folder) {
-        Ok(report) => Ok(report),
-        Err(fault) => Err(fault),
-    }
+    acquire::<C, F>(alloc, uuid, plan, &mut *devices[0], folder)
 }
 
 /// Does what the words ask for, with the devices that were handed in.
@@ -88,10 +86,9 @@ fn acquire_words<C: Case, F: Folder, S: Source>(
     source: &mut S,
 ) -> Result<String, Fault>
     requires told { IfSome C.content (λ c. All (λ d. device_content d ≡ Some c) devices.old.items) }
-    requires empty { IsTrue F.tells → F.held folder.old ≡ empty }
     ensures answer { IsAnswer (request (map (λ w. w.now) words.now) C.content F.tells)
-        (facts F.Folder S.Source (map (λ d. shown (device_content d) (device_block d) (device_size d) (device_faults d)) devices.old.items) folder.old source.old)
-        (facts F.Folder S.Source (map (λ d. shown (device_content d) (device_block d) (device_size d) (device_faults d)) devices.new.items) folder.new source.new)
+        (facts F.Folder S.Source (map (λ d. shown (device_content d) (device_block d) (device_size d) (device_faults d)) devices.old.items) devices.old.items folder.old source.old)
+        (facts F.Folder S.Source (map (λ d. shown (device_content d) (device_block d) (device_size d) (device_faults d)) devices.new.items) devices.new.items folder.new source.new)
         result }
     ensures kept { AreKept (λ d. device_content d) (λ d. device_block d) (λ d. device_size d) (λ d. device_faults d) devices.old.items devices.new.items }
 {
@@ -100,6 +97,9 @@ fn acquire_words<C: Case, F: Folder, S: Source>(
     };
     if let Some(refusal) = refused(devices) {
         return Err(Fault::Devices(refusal));
+    }
+    if let Err(fault) = look_into(folder) {
+        return Err(fault);
     }
     let plan = match read_plan(alloc, source, first_size(devices), first_block(devices)) {
         Ok(plan) => plan,
@@ -112,8 +112,8 @@ fn acquire_words<C: Case, F: Folder, S: Source>(
 }
 
 /// Does what the words ask for, over what is handed in, and answers the status. `acquire` and `acquire4k` read the plan
-/// from the source, acquire from the one device into the folder, and write the report to the sink; a fault's line is
-/// written in its place. The words only say by which blocks main opens the device: the run goes by the blocks that the
+/// from the source, acquire from the one device into the folder, which has to be empty, and write the report to the sink;
+/// a fault's line is written in its place. The words only say by which blocks main opens the device: the run goes by the blocks that the
 /// device has. The report ends with four digests of all bytes of the image, a line each: MD5, SHA-1, SHA-256 and
 /// SHA-512.
 pub fn run_words<C: Case, F: Folder, S: Source, K: Sink, G: Gate>(
@@ -128,12 +128,11 @@ pub fn run_words<C: Case, F: Folder, S: Source, K: Sink, G: Gate>(
 ) -> End<F>
     requires told { IfSome C.content (λ c. All (λ d. device_content d ≡ Some c) devices.items) }
     requires nobody { examiners.items ≡ [] }
-    requires empty { IsTrue F.tells → F.held folder ≡ empty }
 
     // Why the run ended with its status, what it leaves in the folder, and what it wrote.
     ensures outcome { IsOutcome (request (map (λ w. w.now) words.now) C.content F.tells)
-        (facts F.Folder S.Source (map (λ d. shown (device_content d) (device_block d) (device_size d) (device_faults d)) devices.items) folder source.old)
-        (facts F.Folder S.Source (map (λ d. shown (device_content d) (device_block d) (device_size d) (device_faults d)) result.devices.items) result.folder source.new)
+        (facts F.Folder S.Source (map (λ d. shown (device_content d) (device_block d) (device_size d) (device_faults d)) devices.items) devices.items folder source.old)
+        (facts F.Folder S.Source (map (λ d. shown (device_content d) (device_block d) (device_size d) (device_faults d)) result.devices.items) result.devices.items result.folder source.new)
         (output K.Sink sink.old) (output K.Sink sink.new) result.status }
 
     // What was handed in comes back.

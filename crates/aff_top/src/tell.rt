@@ -4,9 +4,11 @@ ghost use Rattle.std.specs.Fmt.{decimal};
 ghost use Rattle.std.specs.Io.KnownBytes.{Appends, Keeps};
 ghost use Rattle.std.specs.String.{string_bytes};
 ghost use Rattle.aff_top.specs.Outcomes.{IsCut, IsTold, code_of, line_of, output, refusal_line};
+ghost use Rattle.aff_top.specs.Texts.{plan_line, text_line};
 
-use crate::fault::{Fault, Refusal};
+use crate::fault::{Fault, Refusal, TextFault};
 use aff_outside::{Sink, SinkError};
+use aff_plan::PlanError;
 use std::alloc::{AllocError, Global};
 
 // The line of devices that are refused.
@@ -21,16 +23,48 @@ fn refusal(alloc: Global, refusal: Refusal) -> Result<String, AllocError>
     }
 }
 
-// The status of a fault and its line.
+// The line of a text that is no plan's.
+fn plan_refusal(alloc: Global, error: PlanError) -> Result<String, AllocError>
+    ensures { IfOk result (λ line. string_bytes line ≡ plan_line error) }
+{
+    match error {
+        PlanError::Shape(line) => format!(in alloc; "error plan {line} shape\n"),
+        PlanError::Number(line) => format!(in alloc; "error plan {line} number\n"),
+        PlanError::Sector(line) => format!(in alloc; "error plan {line} sector\n"),
+        PlanError::TooLong(line) => format!(in alloc; "error plan {line} toolong\n"),
+        PlanError::TooMany(line) => format!(in alloc; "error plan {line} toomany\n"),
+        PlanError::PastEnd(line) => format!(in alloc; "error plan {line} pastend\n"),
+        PlanError::Priority(line) => format!(in alloc; "error plan {line} priority\n"),
+        PlanError::Total(line) => format!(in alloc; "error plan {line} total\n"),
+        PlanError::Overlap(line, earlier) => {
+            format!(in alloc; "error plan {line} overlap {earlier}\n")
+        }
+        PlanError::Memory => format!(in alloc; "error memory\n"),
+    }
+}
+
+// The line of a refused text.
+fn text_refusal(alloc: Global, fault: TextFault) -> Result<String, AllocError>
+    ensures { IfOk result (λ line. string_bytes line ≡ text_line fault) }
+{
+    match fault {
+        TextFault::TooLong => format!(in alloc; "error text\n"),
+        TextFault::Plan(error) => plan_refusal(alloc, error),
+        TextFault::Script(line) => format!(in alloc; "error script {line} shape\n"),
+    }
+}
+
+// The line of a fault.
 fn line(alloc: Global, fault: Fault) -> Result<String, AllocError>
     ensures { IfOk result (λ line. string_bytes line ≡ line_of fault) }
 {
     match fault {
         Fault::Usage => format!(in alloc; "error usage\n"),
-        Fault::Text => format!(in alloc; "error text\n"),
+        Fault::Text(refused) => text_refusal(alloc, refused),
         Fault::Source => format!(in alloc; "error source\n"),
         Fault::Folder => format!(in alloc; "error folder\n"),
         Fault::Memory => format!(in alloc; "error memory\n"),
+        Fault::Occupied => format!(in alloc; "error occupied\n"),
         Fault::Devices(refused) => refusal(alloc, refused),
     }
 }
@@ -53,10 +87,11 @@ fn code(fault: Fault) -> u8
 {
     match fault {
         Fault::Usage => 2,
-        Fault::Text => 3,
+        Fault::Text(_) => 3,
         Fault::Source => 4,
         Fault::Folder => 6,
         Fault::Memory => 7,
+        Fault::Occupied => 8,
         Fault::Devices(_) => 10,
     }
 }

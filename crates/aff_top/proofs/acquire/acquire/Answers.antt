@@ -6,7 +6,7 @@ use Rattle.aff_spec.specs.Names.{stream_urn}
 use Rattle.aff_spec.specs.Report.{report_text}
 use Rattle.aff_spec.specs.Runs.{AreGreatestRuns, history_spot}
 use Rattle.aff_store.specs.Written.{Written}
-use Rattle.aff_top.specs.Stored.{AreStored, AreStoredInPart}
+use Rattle.aff_top.specs.Stored.{AreAllStored, AreStoredInPart}
 use Rattle.aff_top.proofs.Acquiring.{cut_off, cut_off_behind, cut_off_here, few_chunks, is_run, mappable, walks}
 use Rattle.aff_top.proofs.Storing.{nothing_stored}
 use Rattle.aff_top.proofs.acquire.acquire.Goals as goal
@@ -18,7 +18,7 @@ returns-in-Err-store_extents-clause-part g c =
     let old = g.F.Folder.held c.args.folder.now in
     let new = g.F.Folder.held c.store_extents.new.folder in
     let urn : c.in-Ok.stream.urn ≡ stream_urn c.args.uuid.now = ap (λ (w : Written). w.urn) c.in-Ok.ensures.new in
-    cut_off g.C.Case.content plan c.in-Err-store_extents.ensures.plan tells c.args.uuid.now old new c.requires.empty
+    cut_off g.C.Case.content plan c.requires.plan tells c.args.uuid.now old new c.requires.empty
     (subst (λ u. AreStoredInPart g.C.Case.content plan tells u old new) urn c.in-Err-store_extents.ensures.part)
 
 pub returns-in-Err-clause-part : goal.returns-in-Err-clause-part
@@ -40,10 +40,10 @@ finish-requires g c =
     let now = (goal.Device-dyn g (c.args.device.now.0, c.store_extents.new.device)).device_faults c.store_extents.new.device in
     let history = map published c.in-Ok-store_extents.pieces.items in
     let urn : c.in-Ok.stream.urn ≡ stream_urn uuid = ap (λ (v : Written). v.urn) c.in-Ok.ensures.new in
-    let stored : AreStored case plan (length plan.extents) tells (stream_urn uuid) old mid w start now history =
-    subst (λ u. AreStored case plan (length plan.extents) tells u old mid w start now history) urn c.in-Ok-store_extents.ensures.ok in
+    let stored : AreAllStored case plan tells (stream_urn uuid) old mid w start now history =
+    subst (λ u. AreAllStored case plan tells u old mid w start now history) urn c.in-Ok-store_extents.ensures.ok in
     subst (λ v. AreMappable plan.extents (map published v)) (sym c.deref.ensures.value)
-    (mappable case plan c.in-Ok-store_extents.ensures.plan tells uuid c.text.ensures.uuid old mid c.requires.empty w start now history stored)
+    (mappable case plan c.requires.plan tells uuid c.text.ensures.uuid old mid c.requires.empty w start now history stored)
 
 pub returns-in-Err-finish-clause-part : goal.returns-in-Err-finish-clause-part
 returns-in-Err-finish-clause-part g c =
@@ -58,16 +58,16 @@ returns-in-Err-finish-clause-part g c =
     let now = (goal.Device-dyn g (c.args.device.now.0, c.store_extents.new.device)).device_faults c.store_extents.new.device in
     let history = map published c.in-Ok-store_extents.pieces.items in
     let urn : c.in-Ok.stream.urn ≡ stream_urn uuid = ap (λ (v : Written). v.urn) c.in-Ok.ensures.new in
-    let stored : AreStored case plan (length plan.extents) tells (stream_urn uuid) old mid w start now history =
-    subst (λ u. AreStored case plan (length plan.extents) tells u old mid w start now history) urn c.in-Ok-store_extents.ensures.ok in
-    cut_off_here case plan c.in-Ok-store_extents.ensures.plan tells uuid c.text.ensures.uuid old mid c.requires.empty w start now history stored
+    let stored : AreAllStored case plan tells (stream_urn uuid) old mid w start now history =
+    subst (λ u. AreAllStored case plan tells u old mid w start now history) urn c.in-Ok-store_extents.ensures.ok in
+    cut_off_here case plan c.requires.plan tells uuid c.text.ensures.uuid old mid c.requires.empty w start now history stored
 
 pub end_volume-requires-clause-urn : goal.end_volume-requires-clause-urn
 end_volume-requires-clause-urn g c κs within =
-    ap (λ (v : Written). v.urn) c.in-Ok-store_extents.ensures.ok.stream ∙ ap (λ (v : Written). v.urn) c.in-Ok.ensures.new
+    ap (λ (v : Written). v.urn) c.in-Ok-store_extents.ensures.ok.stored.stream ∙ ap (λ (v : Written). v.urn) c.in-Ok.ensures.new
 
 pub end_volume-requires-clause-going : goal.end_volume-requires-clause-going
-end_volume-requires-clause-going g c κs within = ap (λ (v : Written). v.ended) c.in-Ok-store_extents.ensures.ok.stream
+end_volume-requires-clause-going g c κs within = ap (λ (v : Written). v.ended) c.in-Ok-store_extents.ensures.ok.stored.stream
 
 pub end_volume-requires-clause-few : goal.end_volume-requires-clause-few
 end_volume-requires-clause-few g c κs within =
@@ -82,9 +82,9 @@ end_volume-requires-clause-few g c κs within =
     let now = (goal.Device-dyn g (c.args.device.now.0, c.store_extents.new.device)).device_faults c.store_extents.new.device in
     let history = map published c.in-Ok-store_extents.pieces.items in
     let urn : c.in-Ok.stream.urn ≡ stream_urn uuid = ap (λ (v : Written). v.urn) c.in-Ok.ensures.new in
-    let stored : AreStored case plan (length plan.extents) tells (stream_urn uuid) old mid w start now history =
-    subst (λ u. AreStored case plan (length plan.extents) tells u old mid w start now history) urn c.in-Ok-store_extents.ensures.ok in
-    few_chunks case plan c.in-Ok-store_extents.ensures.plan tells uuid c.text.ensures.uuid old mid c.requires.empty w start now history stored
+    let stored : AreAllStored case plan tells (stream_urn uuid) old mid w start now history =
+    subst (λ u. AreAllStored case plan tells u old mid w start now history) urn c.in-Ok-store_extents.ensures.ok in
+    few_chunks case plan c.requires.plan tells uuid c.text.ensures.uuid old mid c.requires.empty w start now history stored
 
 pub end_volume-requires-clause-walkable : goal.end_volume-requires-clause-walkable
 end_volume-requires-clause-walkable g c κs within =
@@ -100,11 +100,11 @@ end_volume-requires-clause-walkable g c κs within =
     let history = map published c.in-Ok-store_extents.pieces.items in
     let entries = c.in-Ok-finish.ending.entries.items in
     let urn : c.in-Ok.stream.urn ≡ stream_urn uuid = ap (λ (v : Written). v.urn) c.in-Ok.ensures.new in
-    let stored : AreStored case plan (length plan.extents) tells (stream_urn uuid) old mid w start now history =
-    subst (λ u. AreStored case plan (length plan.extents) tells u old mid w start now history) urn c.in-Ok-store_extents.ensures.ok in
+    let stored : AreAllStored case plan tells (stream_urn uuid) old mid w start now history =
+    subst (λ u. AreAllStored case plan tells u old mid w start now history) urn c.in-Ok-store_extents.ensures.ok in
     let runs : AreGreatestRuns (history_spot plan.extents history) entries =
     subst (λ v. AreGreatestRuns (history_spot plan.extents (map published v)) entries) c.deref.ensures.value c.in-Ok-finish.ensures.runs in
-    walks case plan c.in-Ok-store_extents.ensures.plan tells uuid c.text.ensures.uuid old mid c.requires.empty w start now history stored entries runs c.in-Ok-finish.ensures.fits
+    walks case plan c.requires.plan tells uuid c.text.ensures.uuid old mid c.requires.empty w start now history stored entries runs c.in-Ok-finish.ensures.fits
 
 pub returns-in-Ok-end_volume-clause-done : goal.returns-in-Ok-end_volume-clause-done
 returns-in-Ok-end_volume-clause-done g c =
@@ -121,15 +121,15 @@ returns-in-Ok-end_volume-clause-done g c =
     let history = map published c.in-Ok-store_extents.pieces.items in
     let entries = c.in-Ok-finish.ending.entries.items in
     let urn : c.in-Ok.stream.urn ≡ stream_urn uuid = ap (λ (v : Written). v.urn) c.in-Ok.ensures.new in
-    let stored : AreStored case plan (length plan.extents) tells (stream_urn uuid) old mid w start now history =
-    subst (λ u. AreStored case plan (length plan.extents) tells u old mid w start now history) urn c.in-Ok-store_extents.ensures.ok in
+    let stored : AreAllStored case plan tells (stream_urn uuid) old mid w start now history =
+    subst (λ u. AreAllStored case plan tells u old mid w start now history) urn c.in-Ok-store_extents.ensures.ok in
     let runs : AreGreatestRuns (history_spot plan.extents history) entries =
     subst (λ v. AreGreatestRuns (history_spot plan.extents (map published v)) entries) c.deref.ensures.value c.in-Ok-finish.ensures.runs in
     let first : string_bytes c.in-Ok-finish.ending.report ≡ report_text uuid plan.size (length plan.extents) history =
     subst (λ u. string_bytes c.in-Ok-finish.ending.report ≡ report_text u plan.size (length plan.extents) history) c.text.ensures.text
     (subst (λ v. string_bytes c.in-Ok-finish.ending.report ≡ report_text c.text.result.now plan.size (length plan.extents) (map published v)) c.deref.ensures.value c.in-Ok-finish.ensures.report) in
     let ended = c.in-Ok-end_volume.ensures.ok in
-    is_run case plan c.in-Ok-store_extents.ensures.plan tells uuid c.text.ensures.uuid old mid c.requires.empty w start now history stored entries runs c.in-Ok-finish.ensures.fits
+    is_run case plan c.requires.plan tells uuid c.text.ensures.uuid old mid c.requires.empty w start now history stored entries runs c.in-Ok-finish.ensures.fits
     new (string_bytes c.in-Ok-end_volume.report) (string_bytes c.in-Ok-finish.ending.report) ended.0 ended.1 first ended.2 ended.3
 
 pub returns-clause-part : goal.returns-clause-part
@@ -147,9 +147,9 @@ returns-clause-part g c =
     let history = map published c.in-Ok-store_extents.pieces.items in
     let entries = c.in-Ok-finish.ending.entries.items in
     let urn : c.in-Ok.stream.urn ≡ stream_urn uuid = ap (λ (v : Written). v.urn) c.in-Ok.ensures.new in
-    let stored : AreStored case plan (length plan.extents) tells (stream_urn uuid) old mid w start now history =
-    subst (λ u. AreStored case plan (length plan.extents) tells u old mid w start now history) urn c.in-Ok-store_extents.ensures.ok in
+    let stored : AreAllStored case plan tells (stream_urn uuid) old mid w start now history =
+    subst (λ u. AreAllStored case plan tells u old mid w start now history) urn c.in-Ok-store_extents.ensures.ok in
     let runs : AreGreatestRuns (history_spot plan.extents history) entries =
     subst (λ v. AreGreatestRuns (history_spot plan.extents (map published v)) entries) c.deref.ensures.value c.in-Ok-finish.ensures.runs in
-    cut_off_behind case plan c.in-Ok-store_extents.ensures.plan tells uuid c.text.ensures.uuid old mid c.requires.empty w start now history stored entries runs c.in-Ok-finish.ensures.fits
+    cut_off_behind case plan c.requires.plan tells uuid c.text.ensures.uuid old mid c.requires.empty w start now history stored entries runs c.in-Ok-finish.ensures.fits
     new c.in-Err-end_volume.ensures.part

@@ -1,0 +1,11 @@
+pub mod Cuts
+pub mod Fields
+pub mod Numbers
+pub mod Ranks
+pub mod Rules
+pub mod Said
+pub mod Same
+pub mod Sound
+pub mod Told
+pub mod Walk
+pub mod Written
