@@ -1,12 +1,17 @@
 //! What the digests of a run cost alone: reads standard input once, takes the digests that a run takes of
 //! such a device (of each chunk that is not all zeros, and of the whole), and writes those of the whole.
 //! Nothing is stored. `bench` compares a run with it. With the word `lanes` or `scalar` it takes the chunks' digests
-//! alone, in lanes or in the scalar code of `md5`, `sha1` and `sha2`, so that `bench` compares the two.
+//! alone, in lanes or in the scalar code of `md5`, `sha1` and `sha2`, so that `bench` compares the two. With the word
+//! `claims` it reads nothing: one pass claims each extent of the longest plan.
 #![tactic(auto)]
 
 ghost use Rattle.std.specs.Prelude.{◌≡◌, ◌<◌, All, IfOk, length};
 ghost use Rattle.aff_model.specs.Plan.{chunk_count};
 
+mod claims;
+
+use crate::claims::claims_of_one_pass;
+use aff_fields::zeros;
 use aff_hash::{Linear, sums_of_chosen};
 use aff_model::{CHUNK, MAX_EXTENT, Memory};
 use aff_outside::{InputSource, OutputSink, Sink, Source};
@@ -34,21 +39,21 @@ enum Mode {
     Scalar,
 }
 
-fn mode_of(word: &str) -> Mode {
-    if word == "lanes" {
-        Mode::Lanes
-    } else if word == "scalar" {
-        Mode::Scalar
-    } else {
-        Mode::Run
-    }
+/// What is timed.
+#[derive(Clone, Copy, Debug, PartialEq, Eq)]
+enum Task {
+    Digests(Mode),
+    Claims,
 }
 
-/// A buffer of zeros.
-fn zeros(alloc: Global, count: usize) -> Result<Vec<u8>, AllocError>
-    ensures { IfOk result (λ bytes. length bytes.items ≡ count) }
-{
-    vec![in alloc; 0u8; count]
+/// What a word asks for.
+fn task_of(word: &str) -> Task {
+    match word {
+        "claims" => Task::Claims,
+        "lanes" => Task::Digests(Mode::Lanes),
+        "scalar" => Task::Digests(Mode::Scalar),
+        _ => Task::Digests(Mode::Run),
+    }
 }
 
 /// A chunk of some bytes.
@@ -148,14 +153,31 @@ fn run(rt: HostRuntime, mode: Mode) -> Result<(), Memory> {
     Ok(())
 }
 
+/// Claims the longest plan, and writes how many extents were claimed.
+fn run_claims(rt: HostRuntime) -> Result<(), Memory> {
+    let alloc = rt.alloc();
+    let Some(count) = claims_of_one_pass(alloc) else {
+        return Err(Memory);
+    };
+    let Ok(line) = format!(in alloc; "claimed {count}\n") else {
+        return Err(Memory);
+    };
+    let _ = OutputSink::new(rt).write(line.as_bytes());
+    Ok(())
+}
+
 fn main(rt: HostRuntime) -> ExitCode {
-    let mut mode = Mode::Run;
+    let mut task = Task::Digests(Mode::Run);
     if let Ok(mut words) = env::args(&rt)
         && let Some(word) = words.nth(1)
     {
-        mode = mode_of(word.as_str());
+        task = task_of(word.as_str());
     }
-    match run(rt, mode) {
+    let outcome = match task {
+        Task::Digests(mode) => run(rt, mode),
+        Task::Claims => run_claims(rt),
+    };
+    match outcome {
         Ok(()) => ExitCode::from(0),
         Err(_) => ExitCode::from(7),
     }

@@ -43,5 +43,5 @@ IsChunkFault held stream size Failed = ⊤
 IsChunkFault held stream size Memory = ⊤
 
 -- what a refusal says of the folder: of all bevvies and then of all chunks, the first that is not as a stream has it
-abbrev pub IsRefused : Held → List ℕ → ℕ → StreamError → Type 0
-IsRefused held stream size e = IsListFault (held_length held) stream (chunk_count size) e × IsChunkFault held stream size e
+abbrev pub IsStreamRefused : Held → List ℕ → ℕ → StreamError → Type 0
+IsStreamRefused held stream size e = IsListFault (held_length held) stream (chunk_count size) e × IsChunkFault held stream size e

@@ -1,6 +1,6 @@
 -- Streams that can be read from a folder.
 use Rattle.std.specs.Prelude.{◌≡◌, ℕ, ◌+◌, ◌-◌, ◌*◌, ◌/◌, ◌%◌, ◌<◌, ◌≤◌, ◌⊎◌, min, List, length}
-use Rattle.aff_model.specs.declared.limits.TheConstants.{CHUNK}
+use Rattle.aff_model.specs.declared.limits.TheConstants.{CHUNK, BEVVY}
 use Rattle.aff_model.specs.Held.{Held, bytes_of}
 use Rattle.aff_model.specs.Plan.{chunk_count}
 use Rattle.aff_fields.specs.declared.point.Point.{Point}
@@ -28,10 +28,10 @@ pub record IsPoint (size len c : ℕ) (p : Point) : Type 0 where
 
 -- the point of chunk c, and the length of its bevvy
 abbrev pub chunk_point : Held → List ℕ → ℕ → Point
-chunk_point held stream c = point_at (bytes_of held (index_name stream (c / 1024))) (c % 1024)
+chunk_point held stream c = point_at (bytes_of held (index_name stream (c / BEVVY))) (c % BEVVY)
 
 abbrev pub chunk_room : Held → List ℕ → ℕ → ℕ
-chunk_room held stream c = length (bytes_of held (bevvy_name stream (c / 1024)))
+chunk_room held stream c = length (bytes_of held (bevvy_name stream (c / BEVVY)))
 
 -- chunk c stands in its bevvy where its point says
 abbrev pub IsChunk : Held → List ℕ → ℕ → ℕ → Type 0

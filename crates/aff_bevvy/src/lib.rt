@@ -8,12 +8,11 @@
 mod bevvies;
 mod error;
 mod index;
+pub mod laws;
 mod listed;
 mod points;
 mod reader;
 mod segment;
-#[cfg(test)]
-mod shelf;
 #[cfg(test)]
 mod tests;
 mod writer;

@@ -17,11 +17,11 @@ ghost use Rattle.aff_bevvy.specs.Streams.{IsChunk, IsPoint, chunk_len as length_
 use crate::StreamError;
 use crate::bevvies::chunks_in;
 use crate::error::stream_error;
-use aff_fields::{FieldsError, Point, read_points};
+use aff_fields::{FieldsError, Point, read_points, zeros};
 use aff_model::{BEVVY, CHUNK, Memory};
 use aff_names::{Urn, segment_name};
 use aff_outside::{Folder, FolderError};
-use std::alloc::{AllocError, Global};
+use std::alloc::Global;
 
 /// How many chunks a stream of so many bytes has.
 pub fn count_chunks(size: u64) -> u64
@@ -67,12 +67,6 @@ fn check_points(points: &[Point], size: u64, len: u64, first: u64) -> Result<(),
         }
     }
     Ok(())
-}
-
-fn zeros(alloc: Global, count: usize) -> Result<Vec<u8>, AllocError>
-    ensures { IfOk result (λ bytes. length bytes.items ≡ count) }
-{
-    vec![in alloc; 0u8; count]
 }
 
 /// Reads the index of a bevvy of so many chunks.
@@ -133,10 +127,7 @@ fn check_index<F: Folder>(
         Ok(points) => points,
         Err(error) => return Err(stream_error(error)),
     };
-    match check_points(&points, size, len, BEVVY * bevvy as u64) {
-        Ok(()) => Ok(()),
-        Err(fault) => Err(fault),
-    }
+    check_points(&points, size, len, BEVVY * bevvy as u64)
 }
 
 /// Checks the points of a stream of `size` bytes, whose bevvies have these lengths.

@@ -5,7 +5,7 @@ ghost use Rattle.aff_model.specs.Held.{lengths};
 ghost use Rattle.aff_model.specs.Plan.{chunk_count};
 ghost use Rattle.aff_outside.specs.declared.folder.FolderError.TheVariants.{Failed};
 ghost use Rattle.aff_spec.specs.Streams.{chunk_of, stream_byte};
-ghost use Rattle.aff_bevvy.specs.Faults.{IsListFault, IsRefused};
+ghost use Rattle.aff_bevvy.specs.Faults.{IsListFault, IsStreamRefused};
 ghost use Rattle.aff_bevvy.specs.Segments.{AreBevvies, listed_length};
 ghost use Rattle.aff_bevvy.specs.Streams.{IsStream, chunk_len, chunk_point};
 
@@ -57,7 +57,7 @@ impl StreamReader {
         ensures bevvies { OnOk result (AreBevvies (listed_length segments.now) stream.now (chunk_count size)) }
         ensures ok { OnOk result (IsTrue F.tells → IsStream (F.held folder.old) stream.now size) }
         ensures fault { IfErr result (IsListFault (listed_length segments.now) stream.now (chunk_count size)) }
-        ensures refused { IfErr result (λ e. IsTrue F.tells → IsRefused (F.held folder.old) stream.now size e) }
+        ensures refused { IfErr result (λ e. IsTrue F.tells → IsStreamRefused (F.held folder.old) stream.now size e) }
         ensures same { IsTrue F.tells → F.held folder.new ≡ F.held folder.old }
         ensures cause { HasCause (F.folder_faults folder.old) (F.folder_faults folder.new) (IsErrOf result StreamError.Failed) }
     {
@@ -152,10 +152,7 @@ impl StreamReader {
             Ok(name) => name,
             Err(Memory) => return Err(FolderError::Memory),
         };
-        match folder.read_at(name.as_str(), point.at.saturating_add(skip), out) {
-            Ok(()) => Ok(()),
-            Err(fault) => Err(fault),
-        }
+        folder.read_at(name.as_str(), point.at.saturating_add(skip), out)
     }
 
     // Reads the point of a chunk.

@@ -1,9 +1,10 @@
 //! What no clause says: that calls succeed where there is memory, and worked refusals.
-ghost use Rattle.std.specs.Prelude.{◌≡◌, ◌≤◌, length, IfOk};
+ghost use Rattle.std.specs.Prelude.{◌≡◌, ◌+◌, ◌≤◌, length, IfOk};
 
-use crate::shelf::Shelf;
+use crate::error::stream_error;
 use crate::{StreamError, StreamReader, StreamWriter};
 use aff_fields::{Point, write_points};
+use aff_memory::MemoryFolder;
 use aff_model::Memory;
 use aff_names::Urn;
 use aff_outside::{Folder, FolderError};
@@ -24,55 +25,81 @@ fn filled(alloc: Global, byte: u8, count: usize) -> Result<Vec<u8>, AllocError>
     vec![in alloc; byte; count]
 }
 
-/// Appends so many chunks, each byte of which is the chunk's number modulo 251.
+/// A folder no call of which fails.
+fn sound(alloc: Global) -> MemoryFolder {
+    MemoryFolder::new(alloc, Vec::new(alloc), Vec::new(alloc))
+}
+
+/// Appends so many chunks, whose first and last bytes are the chunk's number modulo 251.
 fn append_chunks(
     alloc: Global,
     writer: &mut StreamWriter,
-    folder: &mut Shelf,
+    folder: &mut MemoryFolder,
     count: u64,
-) -> Result<(), Fail>
+) -> Result<(), FolderError>
     requires none { writer.old.count ≡ 0 }
     requires few { count ≤ 2000 }
 {
+    let mut chunk = filled(alloc, 0, 32_768)?;
     for k in 0..count {
-        let chunk = filled(alloc, (k % 251) as u8, 32_768)?;
-        match writer.append_chunk(folder, &chunk) {
-            Ok(stored) => {
-                if stored.chunk != k {
-                    return Err("another number")?;
-                }
-            }
-            Err(_) => return Err("no chunk")?,
-        }
+        chunk[0] = (k % 251) as u8;
+        chunk[32_767] = (k % 251) as u8;
+        writer.append_chunk(folder, &chunk)?;
     }
     Ok(())
 }
 
 /// The length of a listed segment.
-fn listed(alloc: Global, folder: &mut Shelf, name: &str) -> Result<u64, Fail> {
-    let segments = folder.list().map_err(|_| "no list")?;
+fn listed(folder: &mut MemoryFolder, name: &str) -> Option<u64> {
+    let segments = folder.list().ok()?;
     for segment in &segments {
         if segment.name.as_str() == name {
-            return Ok(segment.len);
+            return Some(segment.len);
         }
     }
-    Err("no such segment")?
+    None
+}
+
+/// Opens a stream of a size, and reads two of its bytes.
+fn two_bytes(
+    alloc: Global,
+    folder: &mut MemoryFolder,
+    stream: &Urn,
+    size: u64,
+    at: u64,
+) -> Result<[u8; 2], StreamError>
+    requires size { size ≤ 17592186044416 }
+    requires inside { at + 2 ≤ size }
+{
+    let segments = match folder.list() {
+        Ok(segments) => segments,
+        Err(error) => return Err(stream_error(error)),
+    };
+    let reader = match StreamReader::open(alloc, folder, &segments, stream, size) {
+        Ok(reader) => reader,
+        Err(fault) => return Err(fault),
+    };
+    let mut bytes = [0; 2];
+    match reader.read_at(folder, at, &mut bytes) {
+        Ok(()) => Ok(bytes),
+        Err(fault) => Err(fault),
+    }
 }
 
 /// How a stream of a size is refused whose only bevvy has these points and 65,536 bytes.
 fn refusal(alloc: Global, points: &[Point], size: u64) -> Result<Option<StreamError>, Fail>
-    requires { size ≤ 17592186044416 }
+    requires some { 2 ≤ size }
+    requires size { size ≤ 17592186044416 }
 {
     let stream = Urn::read(alloc, STREAM)?;
-    let mut folder = Shelf::new(alloc);
+    let mut folder = sound(alloc);
     let bytes = filled(alloc, 7, 65_536)?;
-    let index = write_points(alloc, points).map_err(|_| "no memory")?;
     folder.append(BEVVY, &bytes).map_err(|_| "no bevvy")?;
     if !points.is_empty() {
+        let index = write_points(alloc, points).map_err(|_| "no memory")?;
         folder.append(INDEX, &index).map_err(|_| "no index")?;
     }
-    let segments = folder.list().map_err(|_| "no list")?;
-    Ok(StreamReader::open(alloc, &mut folder, &segments, &stream, size).err())
+    Ok(two_bytes(alloc, &mut folder, &stream, size, 0).err())
 }
 
 #[test]
@@ -110,7 +137,10 @@ fn a_stream_is_refused_for_its_first_fault(rt: HostRuntime) -> Result<(), Fail> 
         (&[shorter], 512, Some(StreamError::PointLength(0, 511))),
     ];
     for (points, size, expected) in cases {
-        assert_eq!(rt; refusal(rt.alloc(), points, size.min(65_536))?, expected);
+        assert_eq!(rt;
+            refusal(rt.alloc(), points, size.clamp(512, 65_536))?,
+            expected
+        );
     }
     Ok(())
 }
@@ -119,24 +149,50 @@ fn a_stream_is_refused_for_its_first_fault(rt: HostRuntime) -> Result<(), Fail> 
 fn a_bevvy_is_closed_behind_its_last_chunk(rt: HostRuntime) -> Result<(), Fail> {
     let alloc = rt.alloc();
     let stream = Urn::read(alloc, STREAM)?;
-    let mut folder = Shelf::new(alloc);
+    let mut folder = sound(alloc);
     let mut writer = StreamWriter::new(alloc, &stream).map_err(|_| "no writer")?;
-    append_chunks(alloc, &mut writer, &mut folder, 1_025)?;
-    assert_eq!(rt; listed(alloc, &mut folder, INDEX)?, 12_288);
-    match writer.finish(&mut folder) {
-        Ok(count) => assert_eq!(rt; count, 1_025),
-        Err(_) => return Err("not finished")?,
-    }
-    assert_eq!(rt; listed(alloc, &mut folder, NEXT_INDEX)?, 12);
-
-    let segments = folder.list().map_err(|_| "no list")?;
-    let opened = StreamReader::open(alloc, &mut folder, &segments, &stream, 33_587_200);
-    let Ok(reader) = opened else {
-        return Err("not opened")?;
-    };
+    assert!(rt; append_chunks(alloc, &mut writer, &mut folder, 1_025).is_ok());
+    assert_eq!(rt; listed(&mut folder, INDEX), Some(12_288));
+    assert_eq!(rt; writer.finish(&mut folder), Ok(1_025));
+    assert_eq!(rt; listed(&mut folder, NEXT_INDEX), Some(12));
     // The last byte of the first bevvy and the first one of the next.
-    let mut bytes = [0; 2];
-    assert_eq!(rt; reader.read_at(&mut folder, 33_554_431, &mut bytes), Ok(()));
-    assert_eq!(rt; bytes, [19, 20]);
+    assert_eq!(rt;
+        two_bytes(alloc, &mut folder, &stream, 33_587_200, 33_554_431),
+        Ok([19, 20])
+    );
+    Ok(())
+}
+
+/// Writes a stream of one chunk.
+fn write_one(alloc: Global, folder: &mut MemoryFolder, stream: &Urn) -> Result<(), FolderError> {
+    let mut writer = match StreamWriter::new(alloc, stream) {
+        Ok(writer) => writer,
+        Err(Memory) => return Err(FolderError::Memory),
+    };
+    append_chunks(alloc, &mut writer, folder, 1)?;
+    match writer.finish(folder) {
+        Ok(_) => Ok(()),
+        Err(fault) => Err(fault),
+    }
+}
+
+/// Writes a stream of one chunk and reads of it, where the folder's call of this number fails.
+fn one_failing(alloc: Global, call: u64) -> Result<Result<[u8; 2], StreamError>, Fail> {
+    let stream = Urn::read(alloc, STREAM)?;
+    let mut folder = MemoryFolder::new(alloc, vec![in alloc; call]?, Vec::new(alloc));
+    let read = match write_one(alloc, &mut folder, &stream) {
+        Ok(()) => two_bytes(alloc, &mut folder, &stream, 32_768, 0),
+        Err(error) => Err(stream_error(error)),
+    };
+    Ok(read)
+}
+
+// The chunk, the index, the list, the index again, the chunk's point and its bytes.
+#[test]
+fn each_failed_call_is_answered(rt: HostRuntime) -> Result<(), Fail> {
+    for call in 1..7 {
+        assert_eq!(rt; one_failing(rt.alloc(), call)?, Err(StreamError::Failed));
+    }
+    assert_eq!(rt; one_failing(rt.alloc(), 7)?, Ok([0, 0]));
     Ok(())
 }

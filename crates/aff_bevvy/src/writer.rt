@@ -3,6 +3,7 @@ ghost use Rattle.std.specs.Prelude.{◌≡◌, ◌+◌, ◌<◌, length, IfOk, O
 ghost use Rattle.aff_model.specs.Causes.{HasCause};
 ghost use Rattle.aff_outside.specs.declared.folder.FolderError.TheVariants.{Failed};
 ghost use Rattle.aff_spec.specs.Appends.{applied, Reaches};
+ghost use Rattle.aff_bevvy.specs.Chunks.{HasOneMore, IsEnded};
 ghost use Rattle.aff_bevvy.specs.Written.{full_index, last_index, stored_chunk};
 
 use crate::{index, segment};
@@ -74,6 +75,7 @@ impl StreamWriter {
         ensures receipt { IfOk result (λ stored. IsTrue F.tells → F.Receipt.told stored.receipt ≡ bytes.now) }
         ensures next { OnOk result (self.new ≡ record { stream = self.old.stream; count = self.old.count + 1 }) }
         ensures ok { OnOk result (IsTrue F.tells → F.held folder.new ≡ applied (F.held folder.old) (stored_chunk self.old.stream self.old.count bytes.now)) }
+        ensures more { OnOk result (IsTrue F.tells → HasOneMore (F.held folder.old) self.old.stream self.old.count bytes.now (F.held folder.new)) }
         ensures same { OnErr result (self.new ≡ self.old) }
         ensures part { OnErr result (IsTrue F.tells → Reaches (F.held folder.old) (stored_chunk self.old.stream self.old.count bytes.now) (F.held folder.new)) }
         ensures cause { HasCause (F.folder_faults folder.old) (F.folder_faults folder.new) (IsErrOf result Failed) }
@@ -97,6 +99,7 @@ impl StreamWriter {
         ensures count { IfOk result (λ count. count ≡ self.old.count) }
         ensures same { self.new ≡ self.old }
         ensures ok { OnOk result (IsTrue F.tells → F.held folder.new ≡ applied (F.held folder.old) (last_index self.old.stream self.old.count)) }
+        ensures ended { OnOk result (IsTrue F.tells → IsEnded (F.held folder.old) self.old.stream self.old.count (F.held folder.new)) }
         ensures part { OnErr result (IsTrue F.tells → Reaches (F.held folder.old) (last_index self.old.stream self.old.count) (F.held folder.new)) }
         ensures cause { HasCause (F.folder_faults folder.old) (F.folder_faults folder.new) (IsErrOf result Failed) }
     {
@@ -105,10 +108,10 @@ impl StreamWriter {
             return Ok(self.count);
         }
         let bevvy = (self.count / BEVVY) as u32;
-        match index::append(self.alloc, folder, &self.stream, bevvy, rest) {
-            Ok(()) => Ok(self.count),
-            Err(fault) => Err(fault),
+        if let Err(fault) = index::append(self.alloc, folder, &self.stream, bevvy, rest) {
+            return Err(fault);
         }
+        Ok(self.count)
     }
 }
 
@@ -129,8 +132,5 @@ fn close_full<F: Folder>(
         return Ok(());
     }
     let bevvy = (chunk / BEVVY) as u32;
-    match index::append(alloc, folder, stream, bevvy, count) {
-        Ok(()) => Ok(()),
-        Err(fault) => Err(fault),
-    }
+    index::append(alloc, folder, stream, bevvy, count)
 }

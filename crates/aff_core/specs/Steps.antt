@@ -1,6 +1,7 @@
 -- What the one history is made by: the states of the core, and which events lead from one to the next.
 use Rattle.std.specs.Prelude.{◌≡◌, ℕ, ◌+◌, ◌/◌, ◌<◌, ◌≤◌, Bool, true, false, Option, None, Some, IsSomeAnd, List, [], ◌∷◌, ◌++◌, length, map, All, Contains, replicate, slice_get, slice_set, take}
 use Rattle.std.specs.List.Sorted.{IsStrictlyIncreasing}
+use Rattle.aff_model.specs.declared.limits.TheConstants.{SECTOR}
 use Rattle.aff_core.specs.declared.event.Event.{Event}
 use Rattle.aff_core.specs.declared.event.Event.TheVariants.{Claim, Publish, Read, Raise, Finish}
 use Rattle.aff_core.specs.declared.event.CoreError.{CoreError}
@@ -38,7 +39,7 @@ extents_out history = map (λ p. p.extent) history
 -- a publication has the shape of one of an extent: its unreadable sectors rise inside it, and it has one place a chunk
 pub record IsShaped (e : Extent) (p : Published) : Type 0 where
   pub rising : IsStrictlyIncreasing p.bad
-  pub inside : All (λ s. s < e.len / 512) p.bad
+  pub inside : All (λ s. s < e.len / SECTOR) p.bad
   pub places : length p.places ≡ chunk_count e.len
 
 -- when an extent may be claimed

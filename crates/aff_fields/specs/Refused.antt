@@ -5,6 +5,6 @@ use Rattle.aff_fields.specs.declared.error.FieldsError.TheVariants.{Ragged, Memo
 
 -- bytes that ought to be fields of a width: `Ragged` tells their number where they are not whole fields, and memory may
 -- want only where they are
-abbrev pub IsRefused : ℕ → List ℕ → FieldsError → Type 0
-IsRefused width bytes (Ragged len) = (length bytes % width ≢ 0) × (len ≡ length bytes)
-IsRefused width bytes Memory = length bytes % width ≡ 0
+abbrev pub IsRaggedLength : ℕ → List ℕ → FieldsError → Type 0
+IsRaggedLength width bytes (Ragged len) = (length bytes % width ≢ 0) × (len ≡ length bytes)
+IsRaggedLength width bytes Memory = length bytes % width ≡ 0

@@ -2,7 +2,7 @@
 ghost use Rattle.std.specs.Prelude.{◌≡◌, ◌%◌, length, map, IfOk, IfErr, OnOk};
 ghost use Rattle.std.specs.List.{flat_map};
 ghost use Rattle.aff_fields.specs.Entry.{FitsEntry, entries_of, entry_bytes, entry_of};
-ghost use Rattle.aff_fields.specs.Refused.{IsRefused};
+ghost use Rattle.aff_fields.specs.Refused.{IsRaggedLength};
 
 use crate::FieldsError;
 use aff_model::Memory;
@@ -76,7 +76,7 @@ pub fn read_entries(alloc: Global, bytes: &[u8]) -> Result<Vec<Entry>, FieldsErr
     ensures whole { OnOk result (length bytes.now % 28 ≡ 0) }
     ensures entries { IfOk result (λ v. v.items ≡ entries_of bytes.now) }
     ensures bytes { IfOk result (λ v. flat_map entry_bytes v.items ≡ bytes.now) }
-    ensures refused { IfErr result (IsRefused 28 bytes.now) }
+    ensures refused { IfErr result (IsRaggedLength 28 bytes.now) }
 {
     let (fields, rest) = bytes.as_chunks::<28>();
     if !rest.is_empty() {

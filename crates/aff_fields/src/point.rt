@@ -2,7 +2,7 @@
 ghost use Rattle.std.specs.Prelude.{◌≡◌, ◌%◌, length, map, IfOk, IfErr, OnOk};
 ghost use Rattle.std.specs.List.{flat_map};
 ghost use Rattle.aff_fields.specs.Point.{FitsPoint, point_bytes, point_of, points_of};
-ghost use Rattle.aff_fields.specs.Refused.{IsRefused};
+ghost use Rattle.aff_fields.specs.Refused.{IsRaggedLength};
 
 use crate::FieldsError;
 use aff_model::Memory;
@@ -64,7 +64,7 @@ pub fn read_points(alloc: Global, bytes: &[u8]) -> Result<Vec<Point>, FieldsErro
     ensures whole { OnOk result (length bytes.now % 12 ≡ 0) }
     ensures points { IfOk result (λ v. v.items ≡ points_of bytes.now) }
     ensures bytes { IfOk result (λ v. flat_map point_bytes v.items ≡ bytes.now) }
-    ensures refused { IfErr result (IsRefused 12 bytes.now) }
+    ensures refused { IfErr result (IsRaggedLength 12 bytes.now) }
 {
     let (fields, rest) = bytes.as_chunks::<12>();
     if !rest.is_empty() {

@@ -7,7 +7,7 @@ use Rattle.sha2.specs.Sha512.{sha512}
 use Rattle.aff_hash.specs.declared.kind.Hash.{Hash}
 use Rattle.aff_hash.specs.declared.kind.Hash.TheVariants.{Md5, Sha1, Sha256, Sha512}
 
--- the digest of some bytes: MD5 as RFC 1321 has it, the others as FIPS 180-4 has them
+-- the digest of some bytes: MD5 (RFC 1321), SHA-1, SHA-256 and SHA-512 (FIPS 180-4), as the toolchain defines them
 abbrev pub digest_of : Hash → List ℕ → List ℕ
 digest_of Md5 bytes = md5 bytes
 digest_of Sha1 bytes = sha1 bytes

@@ -24,18 +24,18 @@ length-kept_chunks (r ∷ readings) =
     omega (arith, length-append (kept_of r) (kept_chunks readings), length-append (numbers_of r.published.places) (chunk_numbers (history_of readings)), length-kept_of r, length-kept_chunks readings)
 
 -- each of the length of a chunk
-abbrev pub IsWhole : List ℕ → Type 0
-IsWhole chunk = length chunk ≡ 32768
+abbrev pub HasWholeChunks : List ℕ → Type 0
+HasWholeChunks chunk = length chunk ≡ 32768
 
-whole_from : (bytes : List ℕ) (j : ℕ) (places : List Place) → All IsWhole (chunks_from bytes j places)
-whole_from bytes j [] = All-nil IsWhole
+whole_from : (bytes : List ℕ) (j : ℕ) (places : List Place) → All HasWholeChunks (chunks_from bytes j places)
+whole_from bytes j [] = All-nil HasWholeChunks
 whole_from bytes j (Zero ∷ places) = whole_from bytes (suc j) places
 whole_from bytes j (Nothing ∷ places) = whole_from bytes (suc j) places
-whole_from bytes j (Chunk c ∷ places) = All-cons IsWhole (chunk_at bytes j) (chunks_from bytes (suc j) places) (length-chunk_at bytes j) (whole_from bytes (suc j) places)
+whole_from bytes j (Chunk c ∷ places) = All-cons HasWholeChunks (chunk_at bytes j) (chunks_from bytes (suc j) places) (length-chunk_at bytes j) (whole_from bytes (suc j) places)
 
-pub kept_whole : (readings : List Witnessed) → All IsWhole (kept_chunks readings)
-kept_whole [] = All-nil IsWhole
-kept_whole (r ∷ readings) = All-append IsWhole (kept_of r) (kept_chunks readings) (whole_from r.bytes 0 r.published.places) (kept_whole readings)
+pub kept_whole : (readings : List Witnessed) → All HasWholeChunks (kept_chunks readings)
+kept_whole [] = All-nil HasWholeChunks
+kept_whole (r ∷ readings) = All-append HasWholeChunks (kept_of r) (kept_chunks readings) (whole_from r.bytes 0 r.published.places) (kept_whole readings)
 
 -- chunk q of the chunks from chunk j on is stored under a number: it is one of the stored ones, as the number is of theirs
 record IsStored (bytes : List ℕ) (places : List Place) (j q number : ℕ) : Type 0 where

@@ -20,7 +20,8 @@ use Rattle.aff_spec.specs.Names.{map_name, idx_name, stream_urn, image_urn, zero
 use Rattle.aff_spec.specs.Runs.{Spot, lookup, AreGreatestRuns}
 use Rattle.aff_spec.specs.Streams.{stream_byte}
 use Rattle.aff_spec.specs.Symbols.{fill_of}
-use Rattle.aff_spec.specs.Volumes.{volume_of, lines_of, targets_text, target_cell, target_byte, spot_cell, spot_byte, volume_bytes}
+use Rattle.aff_spec.specs.Lines.{lines_of}
+use Rattle.aff_spec.specs.Volumes.{volume_of, targets_text, target_cell, target_byte, spot_cell, spot_byte, volume_bytes}
 use Rattle.aff_spec.specs.Walks.{IsStored, IsWalkable}
 use Rattle.aff_spec.specs.Words.{is_uuid}
 use Rattle.aff_spec.proofs.Chunks.{AreChunks}

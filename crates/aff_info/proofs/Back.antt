@@ -13,11 +13,11 @@ use Rattle.aff_info.specs.Table.{names, fits}
 use Rattle.aff_info.specs.Statements.{Only, one_of}
 use Rattle.aff_info.specs.Values.{number_in, digest_value}
 use Rattle.aff_info.specs.Accept.{is_urn, accepted}
-use Rattle.aff_info.specs.Faults.{Fault, and_then}
+use Rattle.aff_info.specs.Faults.{InfoFault, and_then}
 use Rattle.aff_info.specs.Reading.{nothing, stated, runs, firsts, others, aside, whole_of, IsInfo}
 use Rattle.aff_info.specs.Writing.{row, plain, facts_of}
-use Rattle.aff_info.specs.Laws.{IsDigest, CanBeStated}
-use Rattle.aff_info.specs.declared.draft.Draft.{Draft}
+use Rattle.aff_info.specs.Laws.{HasDigestSize, CanBeStated}
+use Rattle.aff_info.specs.declared.draft.PartialInfo.{PartialInfo}
 use Rattle.aff_info.specs.declared.info.Info.{Info}
 use Rattle.aff_info.specs.declared.name.InfoName.{InfoName}
 use Rattle.aff_info.specs.declared.name.InfoName.TheVariants.{Stream, StreamSize, ChunkSize, ChunksInSegment, Method, StreamStored, Image, ImageSize, Dependent, Gap, ImageStored, Md5, Sha1, Sha256, Sha512, BlockMap}
@@ -25,11 +25,11 @@ use Rattle.aff_info.proofs.Numbers.{number_spelled}
 use Rattle.aff_info.proofs.Rows as rows
 use Rattle.aff_info.proofs.Urns.{is_urn_true}
 
-abbrev known : Draft → Result Draft Fault
+abbrev known : PartialInfo → Result PartialInfo InfoFault
 known d = Ok d
 
 -- one name more
-step : (n : InfoName) (ns : List InfoName) (facts : List Fact) (d new : Draft) (t : Fact) (total : Result Draft Fault) → one_of (filter (fits n d) facts) ≡ Only t → accepted n t d ≡ Ok new
+step : (n : InfoName) (ns : List InfoName) (facts : List Fact) (d new : PartialInfo) (t : Fact) (total : Result PartialInfo InfoFault) → one_of (filter (fits n d) facts) ≡ Only t → accepted n t d ≡ Ok new
     → runs ns facts new ≡ total → runs (n ∷ ns) facts d ≡ total
 unfolding runs
 step n ns facts d new t total only accepts rest = rw (only, accepts) rest
@@ -43,11 +43,11 @@ sized n h = number_spelled n (decimal n) (small n h) refl
 fits_size : (n : ℕ) → n ≤ largest_size → leb n largest_size ≡ true
 fits_size n h = le-leb n largest_size h
 
-digested : (size : ℕ) (bytes : List ℕ) → IsDigest size bytes → decode_sized (encode_lower bytes) size ≡ Ok bytes
+digested : (size : ℕ) (bytes : List ℕ) → HasDigestSize size bytes → decode_sized (encode_lower bytes) size ≡ Ok bytes
 digested size bytes h = decode_sized-encode_lower bytes size h.long h.bytes_are
 
 -- what is known once all is read
-abbrev last : Info → Draft
+abbrev last : Info → PartialInfo
 last info = record {
   volume = Some info.volume;
   stream = Some info.stream;
@@ -68,16 +68,16 @@ all_read info h =
     let i = info.image in
     let two : bytes_eq s i ≡ false = rows.apart s i h.two in
     let other : bytes_eq i s ≡ false = rows.apart i s (λ e. h.two (sym e)) in
-    let d1 : Draft = record nothing { stream = Some s } in
-    let d2 : Draft = record d1 { image = Some i } in
-    let d3 : Draft = record d2 { stream_size = info.stream_size } in
-    let d4 : Draft = record d3 { volume = Some info.volume } in
-    let d5 : Draft = record d4 { image_size = info.image_size } in
-    let d6 : Draft = record d5 { gap = info.gap } in
-    let d7 : Draft = record d6 { linear = record d6.linear { md5 = info.linear.md5 } } in
-    let d8 : Draft = record d7 { linear = record d7.linear { sha1 = info.linear.sha1 } } in
-    let d9 : Draft = record d8 { linear = record d8.linear { sha256 = info.linear.sha256 } } in
-    let d10 : Draft = record d9 { linear = record d9.linear { sha512 = info.linear.sha512 } } in
+    let d1 : PartialInfo = record nothing { stream = Some s } in
+    let d2 : PartialInfo = record d1 { image = Some i } in
+    let d3 : PartialInfo = record d2 { stream_size = info.stream_size } in
+    let d4 : PartialInfo = record d3 { volume = Some info.volume } in
+    let d5 : PartialInfo = record d4 { image_size = info.image_size } in
+    let d6 : PartialInfo = record d5 { gap = info.gap } in
+    let d7 : PartialInfo = record d6 { linear = record d6.linear { md5 = info.linear.md5 } } in
+    let d8 : PartialInfo = record d7 { linear = record d7.linear { sha1 = info.linear.sha1 } } in
+    let d9 : PartialInfo = record d8 { linear = record d8.linear { sha256 = info.linear.sha256 } } in
+    let d10 : PartialInfo = record d9 { linear = record d9.linear { sha512 = info.linear.sha512 } } in
     step Stream (Image ∷ StreamSize ∷ ChunkSize ∷ ChunksInSegment ∷ Method ∷ StreamStored ∷ ImageSize ∷ Dependent ∷ Gap ∷ ImageStored ∷ Md5 ∷ Sha1 ∷ Sha256 ∷ Sha512 ∷ BlockMap ∷ []) facts nothing d1 _ total (rows.only_stream info nothing) (rw (is_urn_true s h.stream) refl)
     (step Image (StreamSize ∷ ChunkSize ∷ ChunksInSegment ∷ Method ∷ StreamStored ∷ ImageSize ∷ Dependent ∷ Gap ∷ ImageStored ∷ Md5 ∷ Sha1 ∷ Sha256 ∷ Sha512 ∷ BlockMap ∷ []) facts d1 d2 _ total (rows.only_image info d1) (rw (is_urn_true i h.image) refl)
     (step StreamSize (ChunkSize ∷ ChunksInSegment ∷ Method ∷ StreamStored ∷ ImageSize ∷ Dependent ∷ Gap ∷ ImageStored ∷ Md5 ∷ Sha1 ∷ Sha256 ∷ Sha512 ∷ BlockMap ∷ []) facts d2 d3 _ total (rows.only_stream_size info d2 refl two) (rw (sized info.stream_size h.stream_fits, fits_size info.stream_size h.stream_fits) refl)
@@ -96,7 +96,7 @@ all_read info h =
     (step BlockMap ([]) facts d10 (last info) _ total (rows.only_block_map info d10 refl) (rw (digested 64 info.block_map h.block_map) refl)
     refl)))))))))))))))
 
-two_places : (info : Info) (d : Draft) → CanBeStated info → d.stream ≡ Some info.stream → d.image ≡ Some info.image → firsts names (facts_of info) d
+two_places : (info : Info) (d : PartialInfo) → CanBeStated info → d.stream ≡ Some info.stream → d.image ≡ Some info.image → firsts names (facts_of info) d
     ≡ Some 0 ∷ Some 6 ∷ Some 1 ∷ Some 2 ∷ Some 3 ∷ Some 4 ∷ Some 5 ∷ Some 7 ∷ Some 8 ∷ Some 9 ∷ Some 10 ∷ Some 11 ∷ Some 12 ∷ Some 13 ∷ Some 14 ∷ Some 15 ∷ []
 two_places info d h s i =
     let other = rows.apart info.image info.stream (λ e. h.two (sym e)) in

@@ -6,31 +6,31 @@ use Rattle.std.proofs.lemmas.List.{at_drop_more, at_drop_all}
 use Rattle.aff_turtle.specs.Triples.{Fact}
 use Rattle.aff_info.specs.Table.{names, fits}
 use Rattle.aff_info.specs.Statements.{one_of}
-use Rattle.aff_info.specs.Faults.{Fault, and_then, Fails}
+use Rattle.aff_info.specs.Faults.{InfoFault, and_then, Fails}
 use Rattle.aff_info.specs.Reading.{stated, runs, is_place, others}
-use Rattle.aff_info.specs.declared.draft.Draft.{Draft}
+use Rattle.aff_info.specs.declared.draft.PartialInfo.{PartialInfo}
 use Rattle.aff_info.specs.declared.error.InfoError.{InfoError}
 use Rattle.aff_info.specs.declared.name.InfoName.{InfoName}
 use Rattle.aff_info.proofs.Given.{fails_then}
 
-at_place : (ns : List InfoName) (facts : List Fact) (i : ℕ) (n x : InfoName) (d : Draft) → i < length ns → n ≡ get_or ns i x
+at_place : (ns : List InfoName) (facts : List Fact) (i : ℕ) (n x : InfoName) (d : PartialInfo) → i < length ns → n ≡ get_or ns i x
     → runs (drop i ns) facts d ≡ and_then (stated n (one_of (filter (fits n d) facts)) d) (runs (drop (i + 1) ns) facts)
 unfolding runs
 at_place ns facts i n x d inside is = at_drop_more (λ ms. runs ms facts d) ns i x inside ∙ rw (sym is) refl
 
-pub runs_more : (ns : List InfoName) (facts : List Fact) (i : ℕ) (n x : InfoName) (d new : Draft) (total : Result Draft Fault) → i < length ns → n ≡ get_or ns i x
+pub runs_more : (ns : List InfoName) (facts : List Fact) (i : ℕ) (n x : InfoName) (d new : PartialInfo) (total : Result PartialInfo InfoFault) → i < length ns → n ≡ get_or ns i x
     → stated n (one_of (filter (fits n d) facts)) d ≡ Ok new → runs (drop i ns) facts d ≡ total → runs (drop (i + 1) ns) facts new ≡ total
 runs_more ns facts i n x d new total inside is e so_far =
     let one : runs (drop i ns) facts d ≡ runs (drop (i + 1) ns) facts new = at_place ns facts i n x d inside is ∙ rw e refl in
     sym one ∙ so_far
 
-pub runs_fail : (ns : List InfoName) (facts : List Fact) (i : ℕ) (n x : InfoName) (d : Draft) (total : Result Draft Fault) (e : InfoError) → i < length ns → n ≡ get_or ns i x
+pub runs_fail : (ns : List InfoName) (facts : List Fact) (i : ℕ) (n x : InfoName) (d : PartialInfo) (total : Result PartialInfo InfoFault) (e : InfoError) → i < length ns → n ≡ get_or ns i x
     → Fails (stated n (one_of (filter (fits n d) facts)) d) e → runs (drop i ns) facts d ≡ total → Fails total e
 runs_fail ns facts i n x d total e inside is fails so_far =
     let all = fails_then (stated n (one_of (filter (fits n d) facts)) d) (runs (drop (i + 1) ns) facts) e fails in
-    subst (λ (outcome : Result Draft Fault). Fails outcome e) (sym (at_place ns facts i n x d inside is) ∙ so_far) all
+    subst (λ (outcome : Result PartialInfo InfoFault). Fails outcome e) (sym (at_place ns facts i n x d inside is) ∙ so_far) all
 
-pub runs_end : (ns : List InfoName) (facts : List Fact) (i : ℕ) (d : Draft) (total : Result Draft Fault) → length ns ≤ i → runs (drop i ns) facts d ≡ total → total ≡ Ok d
+pub runs_end : (ns : List InfoName) (facts : List Fact) (i : ℕ) (d : PartialInfo) (total : Result PartialInfo InfoFault) → length ns ≤ i → runs (drop i ns) facts d ≡ total → total ≡ Ok d
 unfolding runs
 runs_end ns facts i d total past so_far = sym so_far ∙ at_drop_all (λ ms. runs ms facts d) ns i past
 

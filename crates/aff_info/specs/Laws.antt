@@ -9,7 +9,7 @@ use Rattle.aff_info.specs.Writing.{facts_of}
 use Rattle.aff_info.specs.declared.info.Info.{Info}
 
 -- a digest of so many bytes
-pub record IsDigest (size : ℕ) (bytes : List ℕ) : Type 0 where
+pub record HasDigestSize (size : ℕ) (bytes : List ℕ) : Type 0 where
   pub long : length bytes ≡ size
   pub bytes_are : IsBytes bytes
 
@@ -22,11 +22,11 @@ pub record CanBeStated (info : Info) : Type 0 where
   pub stream_fits : info.stream_size ≤ largest_size
   pub image_fits : info.image_size ≤ largest_size
   pub gap : info.gap ≡ targets.Unknown
-  pub md5 : IsDigest 16 info.linear.md5
-  pub sha1 : IsDigest 20 info.linear.sha1
-  pub sha256 : IsDigest 32 info.linear.sha256
-  pub sha512 : IsDigest 64 info.linear.sha512
-  pub block_map : IsDigest 64 info.block_map
+  pub md5 : HasDigestSize 16 info.linear.md5
+  pub sha1 : HasDigestSize 20 info.linear.sha1
+  pub sha256 : HasDigestSize 32 info.linear.sha256
+  pub sha512 : HasDigestSize 64 info.linear.sha512
+  pub block_map : HasDigestSize 64 info.block_map
 
 -- what is stated is read as it was, and nothing is left
 abbrev pub ReadsBack : Type 0

@@ -8,15 +8,15 @@ use Rattle.aff_turtle.specs.Triples.{Fact}
 use Rattle.aff_info.specs.Table.{fits, names}
 use Rattle.aff_info.specs.Statements.{One, Only, one_of, Missing as None_, Twice as Many}
 use Rattle.aff_info.specs.Accept.{accepted}
-use Rattle.aff_info.specs.Faults.{Fault, Missing, Twice, and_then, Fails}
+use Rattle.aff_info.specs.Faults.{InfoFault, Missing, Twice, and_then, Fails}
 use Rattle.aff_info.specs.Found.{Found}
-use Rattle.aff_info.specs.declared.draft.Draft.{Draft}
+use Rattle.aff_info.specs.declared.draft.PartialInfo.{PartialInfo}
 use Rattle.aff_info.specs.declared.error.InfoError.{InfoError}
 use Rattle.aff_info.specs.declared.info.Info.{Info}
 use Rattle.aff_info.specs.declared.name.InfoName.{InfoName}
 
 -- what is known before anything is read
-abbrev pub nothing : Draft
+abbrev pub nothing : PartialInfo
 nothing = record {
   volume = None;
   stream = None;
@@ -29,18 +29,18 @@ nothing = record {
 }
 
 -- what is known with the one statement of a name
-abbrev pub stated : InfoName → One → Draft → Result Draft Fault
+abbrev pub stated : InfoName → One → PartialInfo → Result PartialInfo InfoFault
 stated name None_ d = Err (Missing name)
 stated name Many d = Err (Twice name)
 stated name (Only t) d = accepted name t d
 
 -- what is known with the statements of these names, one after another
-unfoldable pub runs : List InfoName → List Fact → Draft → Result Draft Fault
+unfoldable pub runs : List InfoName → List Fact → PartialInfo → Result PartialInfo InfoFault
 runs [] facts d = Ok d
 runs (name ∷ rest) facts d = and_then (stated name (one_of (filter (fits name d) facts)) d) (runs rest facts)
 
 -- where the first statement of each name stands
-abbrev pub firsts : List InfoName → List Fact → Draft → List (Option ℕ)
+abbrev pub firsts : List InfoName → List Fact → PartialInfo → List (Option ℕ)
 firsts ns facts d = map (λ name. position (fits name d) facts) ns
 
 abbrev pub is_place : ℕ → Option ℕ → Bool
@@ -53,16 +53,16 @@ others fs place zero = []
 others fs place (suc count) = if list_any (is_place place) fs then others fs (place + 1) count else place ∷ others fs (place + 1) count
 
 -- the places at which the first statement of no name stands
-unfoldable pub aside : List Fact → Draft → List ℕ
+unfoldable pub aside : List Fact → PartialInfo → List ℕ
 aside facts d = others (firsts names facts d) 0 (length facts)
 
 -- the URNs of the volume, the stream and the image are known
-pub record IsWhole (d : Draft) : Type 0 where
+pub record HasUrns (d : PartialInfo) : Type 0 where
   pub volume : IsSome d.volume
   pub stream : IsSome d.stream
   pub image : IsSome d.image
 
-abbrev pub with_urns : Draft → Option (List ℕ) → Option (List ℕ) → Option (List ℕ) → Option Info
+abbrev pub with_urns : PartialInfo → Option (List ℕ) → Option (List ℕ) → Option (List ℕ) → Option Info
 with_urns d (Some volume) (Some stream) (Some image) = Some (record {
   volume = volume;
   stream = stream;
@@ -76,19 +76,19 @@ with_urns d (Some volume) (Some stream) (Some image) = Some (record {
 with_urns d _ _ _ = None
 
 -- the metadata, where all is known
-abbrev pub whole_of : Draft → Option Info
+abbrev pub whole_of : PartialInfo → Option Info
 whole_of d = with_urns d d.volume d.stream d.image
 
 -- all names give these metadata, and these places are left
 pub record IsInfo (facts : List Fact) (found : Found) : Type 0 where
-  pub draft : Draft
+  pub draft : PartialInfo
   pub read : runs names facts nothing ≡ Ok draft
   pub whole : whole_of draft ≡ Some found.info
   pub rest : found.aside ≡ aside facts draft
 
 -- the first name that is not as it should be has this fault
-abbrev pub IsFault : List Fact → Fault → Type 0
-IsFault facts fault = runs names facts nothing ≡ Err fault
+abbrev pub IsInfoFault : List Fact → InfoFault → Type 0
+IsInfoFault facts fault = runs names facts nothing ≡ Err fault
 
 -- an error is that fault, unless memory ran out
 abbrev pub IsError : List Fact → InfoError → Type 0

@@ -1,5 +1,6 @@
 -- The IRIs and numbers of the statements (AFF4 Standard v1.0, and XML Schema for datatypes).
 use Rattle.std.specs.Prelude.{ℕ, List, codes}
+use Rattle.aff_model.specs.declared.limits.TheConstants.{BEVVY, CHUNK}
 
 abbrev pub image_stream : List ℕ
 image_stream = codes "http://aff4.org/Schema#ImageStream"
@@ -48,10 +49,10 @@ xsd_string = codes "http://www.w3.org/2001/XMLSchema#string"
 
 -- the bytes of a chunk, and the chunks of a segment
 abbrev pub chunk_size : ℕ
-chunk_size = 32768
+chunk_size = CHUNK
 
 abbrev pub chunks_in_segment : ℕ
-chunks_in_segment = 1024
+chunks_in_segment = BEVVY
 
 -- the largest size of a stream or an image: 2^44
 abbrev pub largest_size : ℕ

@@ -3,7 +3,7 @@ use Rattle.std.specs.Prelude.{ℕ, Bool, true, false, ◌&&◌, List, [], ◌∷
 use Rattle.std.specs.Str.{bytes_eq}
 use Rattle.aff_turtle.specs.Triples.{Term, Resource, Literal, Fact}
 use Rattle.aff_info.specs.Schema.{image_stream, image_map, md5_type, sha1_type, sha256_type, sha512_type}
-use Rattle.aff_info.specs.declared.draft.Draft.{Draft}
+use Rattle.aff_info.specs.declared.draft.PartialInfo.{PartialInfo}
 use Rattle.aff_info.specs.declared.name.InfoName.{InfoName}
 use Rattle.aff_info.specs.declared.name.InfoName.TheVariants.{Stream, StreamSize, ChunkSize, ChunksInSegment, Method, StreamStored, Image, ImageSize, Dependent, Gap, ImageStored, Md5, Sha1, Sha256, Sha512, BlockMap}
 
@@ -57,7 +57,7 @@ fits_object Sha512 o = has_type o sha512_type
 fits_object _ o = true
 
 -- the subject is any for the stream and the image, and the stream or the image for the others
-abbrev pub fits_subject : InfoName → Draft → List ℕ → Bool
+abbrev pub fits_subject : InfoName → PartialInfo → List ℕ → Bool
 fits_subject Stream d subject = true
 fits_subject Image d subject = true
 fits_subject StreamSize d subject = is_about d.stream subject
@@ -68,7 +68,7 @@ fits_subject StreamStored d subject = is_about d.stream subject
 fits_subject _ d subject = is_about d.image subject
 
 -- a triple is a statement of this name, under what is known
-unfoldable pub fits : InfoName → Draft → Fact → Bool
+unfoldable pub fits : InfoName → PartialInfo → Fact → Bool
 fits name d t = bytes_eq t.predicate (predicate_of name) && fits_object name t.object && fits_subject name d t.subject
 
 abbrev pub is_literal : Term → List ℕ → List ℕ → List ℕ → Bool

@@ -20,9 +20,9 @@ unfoldable pub number_in : List ℕ → Option ℕ
 number_in text = let n = digits_value 10 text in if nat_lt n (2 ^ 64) && bytes_eq (decimal n) text then Some n else None
 
 -- the number that a literal states
-abbrev pub number_of : Term → Option ℕ
-number_of (Resource iri) = None
-number_of (Literal text datatype lang) = if is_number_type datatype then number_in text else None
+abbrev pub stated_number : Term → Option ℕ
+stated_number (Resource iri) = None
+stated_number (Literal text datatype lang) = if is_number_type datatype then number_in text else None
 
 -- the gap that an object names
 abbrev pub gap_of : Term → Option Target

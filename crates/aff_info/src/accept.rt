@@ -4,7 +4,7 @@ ghost use Rattle.aff_turtle.specs.Objects.{term_of};
 ghost use Rattle.aff_info.specs.Accept.{accepted, urn_in, urn_named, size_of, needs_number, needs_urn, needs_method};
 ghost use Rattle.aff_info.specs.Faults.{Gives, Tells, error_of};
 
-use crate::draft::Draft;
+use crate::draft::PartialInfo;
 use crate::fits::{has_type, is_about, is_resource};
 use crate::schema::{NULL_COMPRESSOR, SHA512};
 use crate::value::{gap, md5, number, sha1, sha256, sha512};
@@ -20,7 +20,7 @@ pub fn accept(
     alloc: Global,
     name: InfoName,
     triple: &Triple,
-    draft: &mut Draft,
+    draft: &mut PartialInfo,
 ) -> Result<(), InfoError>
     ensures { Tells (accepted name triple.now draft.old) result draft.new }
 {
@@ -45,7 +45,7 @@ pub fn accept(
 }
 
 #[tactic(auto, using(crate::proofs::Given::fails_then))]
-fn keep_stream(alloc: Global, triple: &Triple, draft: &mut Draft) -> Result<(), InfoError>
+fn keep_stream(alloc: Global, triple: &Triple, draft: &mut PartialInfo) -> Result<(), InfoError>
     ensures { Tells (accepted InfoName.Stream triple.now draft.old) result draft.new }
 {
     let found = urn(alloc, InfoName::Stream, triple.subject.as_str())?;
@@ -54,7 +54,7 @@ fn keep_stream(alloc: Global, triple: &Triple, draft: &mut Draft) -> Result<(), 
 }
 
 #[tactic(auto, using(crate::proofs::Given::fails_then))]
-fn keep_image(alloc: Global, triple: &Triple, draft: &mut Draft) -> Result<(), InfoError>
+fn keep_image(alloc: Global, triple: &Triple, draft: &mut PartialInfo) -> Result<(), InfoError>
     ensures { Tells (accepted InfoName.Image triple.now draft.old) result draft.new }
 {
     let found = urn(alloc, InfoName::Image, triple.subject.as_str())?;
@@ -63,7 +63,7 @@ fn keep_image(alloc: Global, triple: &Triple, draft: &mut Draft) -> Result<(), I
 }
 
 #[tactic(auto, using(crate::proofs::Given::fails_then))]
-fn keep_volume(alloc: Global, triple: &Triple, draft: &mut Draft) -> Result<(), InfoError>
+fn keep_volume(alloc: Global, triple: &Triple, draft: &mut PartialInfo) -> Result<(), InfoError>
     ensures { Tells (accepted InfoName.StreamStored triple.now draft.old) result draft.new }
 {
     let found = named_urn(alloc, InfoName::StreamStored, &triple.object)?;
@@ -72,7 +72,11 @@ fn keep_volume(alloc: Global, triple: &Triple, draft: &mut Draft) -> Result<(), 
 }
 
 #[tactic(auto, using(crate::proofs::Given::fails_then))]
-fn keep_stream_size(alloc: Global, triple: &Triple, draft: &mut Draft) -> Result<(), InfoError>
+fn keep_stream_size(
+    alloc: Global,
+    triple: &Triple,
+    draft: &mut PartialInfo,
+) -> Result<(), InfoError>
     ensures { Tells (accepted InfoName.StreamSize triple.now draft.old) result draft.new }
 {
     let found = size(alloc, InfoName::StreamSize, &triple.object)?;
@@ -81,7 +85,7 @@ fn keep_stream_size(alloc: Global, triple: &Triple, draft: &mut Draft) -> Result
 }
 
 #[tactic(auto, using(crate::proofs::Given::fails_then))]
-fn keep_image_size(alloc: Global, triple: &Triple, draft: &mut Draft) -> Result<(), InfoError>
+fn keep_image_size(alloc: Global, triple: &Triple, draft: &mut PartialInfo) -> Result<(), InfoError>
     ensures { Tells (accepted InfoName.ImageSize triple.now draft.old) result draft.new }
 {
     let found = size(alloc, InfoName::ImageSize, &triple.object)?;
@@ -89,7 +93,7 @@ fn keep_image_size(alloc: Global, triple: &Triple, draft: &mut Draft) -> Result<
     Ok(())
 }
 
-fn keep_gap(triple: &Triple, draft: &mut Draft) -> Result<(), InfoError>
+fn keep_gap(triple: &Triple, draft: &mut PartialInfo) -> Result<(), InfoError>
     ensures { Tells (accepted InfoName.Gap triple.now draft.old) result draft.new }
 {
     match gap(&triple.object) {
@@ -101,7 +105,7 @@ fn keep_gap(triple: &Triple, draft: &mut Draft) -> Result<(), InfoError>
     }
 }
 
-fn keep_md5(triple: &Triple, draft: &mut Draft) -> Result<(), InfoError>
+fn keep_md5(triple: &Triple, draft: &mut PartialInfo) -> Result<(), InfoError>
     ensures { Tells (accepted InfoName.Md5 triple.now draft.old) result draft.new }
 {
     match md5(&triple.object) {
@@ -113,7 +117,7 @@ fn keep_md5(triple: &Triple, draft: &mut Draft) -> Result<(), InfoError>
     }
 }
 
-fn keep_sha1(triple: &Triple, draft: &mut Draft) -> Result<(), InfoError>
+fn keep_sha1(triple: &Triple, draft: &mut PartialInfo) -> Result<(), InfoError>
     ensures { Tells (accepted InfoName.Sha1 triple.now draft.old) result draft.new }
 {
     match sha1(&triple.object) {
@@ -125,7 +129,7 @@ fn keep_sha1(triple: &Triple, draft: &mut Draft) -> Result<(), InfoError>
     }
 }
 
-fn keep_sha256(triple: &Triple, draft: &mut Draft) -> Result<(), InfoError>
+fn keep_sha256(triple: &Triple, draft: &mut PartialInfo) -> Result<(), InfoError>
     ensures { Tells (accepted InfoName.Sha256 triple.now draft.old) result draft.new }
 {
     match sha256(&triple.object) {
@@ -137,7 +141,7 @@ fn keep_sha256(triple: &Triple, draft: &mut Draft) -> Result<(), InfoError>
     }
 }
 
-fn keep_sha512(triple: &Triple, draft: &mut Draft) -> Result<(), InfoError>
+fn keep_sha512(triple: &Triple, draft: &mut PartialInfo) -> Result<(), InfoError>
     ensures { Tells (accepted InfoName.Sha512 triple.now draft.old) result draft.new }
 {
     match sha512(&triple.object) {
@@ -149,7 +153,7 @@ fn keep_sha512(triple: &Triple, draft: &mut Draft) -> Result<(), InfoError>
     }
 }
 
-fn keep_block_map(triple: &Triple, draft: &mut Draft) -> Result<(), InfoError>
+fn keep_block_map(triple: &Triple, draft: &mut PartialInfo) -> Result<(), InfoError>
     ensures { Tells (accepted InfoName.BlockMap triple.now draft.old) result draft.new }
 {
     if !has_type(&triple.object, SHA512) {

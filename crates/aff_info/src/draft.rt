@@ -8,7 +8,7 @@ use aff_names::Urn;
 
 /// What the statements read so far say. What was not read yet is absent or 0.
 #[derive(Drop)]
-pub struct Draft {
+pub struct PartialInfo {
     pub volume: Option<Urn>,
     pub stream: Option<Urn>,
     pub image: Option<Urn>,
@@ -20,10 +20,10 @@ pub struct Draft {
 }
 
 /// Nothing is known.
-pub fn empty() -> Draft
+pub fn empty() -> PartialInfo
     ensures { result ≡ nothing }
 {
-    Draft {
+    PartialInfo {
         volume: None,
         stream: None,
         image: None,

@@ -5,7 +5,7 @@ ghost use Rattle.aff_turtle.specs.Objects.{term_of};
 ghost use Rattle.aff_info.specs.Table.{is_resource, has_type, is_literal, is_about, fits_object, fits_subject, fits, same_term, same};
 
 use crate::InfoName;
-use crate::draft::Draft;
+use crate::draft::PartialInfo;
 use crate::name::predicate;
 use crate::schema::{IMAGE_STREAM, MAP, MD5, SHA1, SHA256, SHA512};
 use aff_names::Urn;
@@ -13,7 +13,7 @@ use aff_turtle::{Object, Triple};
 
 /// Whether a triple is a statement of a name.
 #[tactic(auto, unfolding(crate::specs::Table::fits))]
-pub fn fits(name: InfoName, draft: &Draft, triple: &Triple) -> bool
+pub fn fits(name: InfoName, draft: &PartialInfo, triple: &Triple) -> bool
     ensures { result ≡ fits name draft.now triple.now }
 {
     is_text(triple.predicate.as_str(), predicate(name))
@@ -37,7 +37,7 @@ fn fits_object(name: InfoName, object: &Object) -> bool
 }
 
 // All statements but the two first speak of the stream or the image that those tell.
-fn fits_subject(name: InfoName, draft: &Draft, subject: &str) -> bool
+fn fits_subject(name: InfoName, draft: &PartialInfo, subject: &str) -> bool
     ensures { result ≡ fits_subject name draft.now subject.now }
 {
     match name {

@@ -4,7 +4,7 @@ ghost use Rattle.aff_info.specs.Table.{fits};
 ghost use Rattle.aff_info.specs.Statements.{IsOne};
 
 use crate::InfoName;
-use crate::draft::Draft;
+use crate::draft::PartialInfo;
 use crate::fits::{fits, same};
 use aff_turtle::Triple;
 
@@ -16,7 +16,7 @@ pub enum Lack {
 }
 
 /// The place of the first statement of a name, where there is one and all others say the same.
-pub fn one(name: InfoName, draft: &Draft, triples: &[Triple]) -> Result<usize, Lack>
+pub fn one(name: InfoName, draft: &PartialInfo, triples: &[Triple]) -> Result<usize, Lack>
     ensures { IsOne (fits name draft.now) triples.now result }
 {
     let Some(first) = first_place(name, draft, triples) else {
@@ -31,7 +31,7 @@ pub fn one(name: InfoName, draft: &Draft, triples: &[Triple]) -> Result<usize, L
 }
 
 /// The place of the first statement of a name.
-pub fn first_place(name: InfoName, draft: &Draft, triples: &[Triple]) -> Option<usize>
+pub fn first_place(name: InfoName, draft: &PartialInfo, triples: &[Triple]) -> Option<usize>
     ensures { result ≡ position (fits name draft.now) triples.now }
 {
     triples.iter().position(|triple| fits(name, draft, triple))

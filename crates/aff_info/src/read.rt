@@ -3,12 +3,12 @@ ghost use Rattle.std.specs.Prelude.{◌≡◌, IfOk, IfErr, IsErr, IsOkUnless, S
 ghost use Rattle.std.specs.List.{list_any};
 ghost use Rattle.aff_info.specs.Table.{fits};
 ghost use Rattle.aff_info.specs.Statements.{one_of};
-ghost use Rattle.aff_info.specs.Faults.{Fault, Gives, Tells};
+ghost use Rattle.aff_info.specs.Faults.{InfoFault, Gives, Tells};
 ghost use Rattle.aff_info.specs.Found.{Found};
-ghost use Rattle.aff_info.specs.Reading.{nothing, stated, runs, firsts, is_place, others, aside, IsWhole, whole_of, IsInfo, IsFault, IsError};
+ghost use Rattle.aff_info.specs.Reading.{nothing, stated, runs, firsts, is_place, others, aside, HasUrns, whole_of, IsInfo, IsInfoFault, IsError};
 
 use crate::accept::accept;
-use crate::draft::{Draft, empty};
+use crate::draft::{PartialInfo, empty};
 use crate::name::NAMES;
 use crate::one::{Lack, first_place, one};
 use crate::{Info, InfoError, InfoName, InfoRead};
@@ -21,7 +21,7 @@ pub fn of_triples(alloc: Global, triples: &[Triple]) -> Result<InfoRead, InfoErr
     ensures found { IfOk result (λ found. IsInfo triples.now found) }
     ensures taken { (found : Found) → IsInfo triples.now found → IsOkUnless result InfoError.Memory }
     ensures refused { IfErr result (λ e. IsError triples.now e) }
-    ensures told { (fault : Fault) → IsFault triples.now fault → IsErr result }
+    ensures told { (fault : InfoFault) → IsInfoFault triples.now fault → IsErr result }
 {
     read_all(alloc, triples)
 }
@@ -39,7 +39,11 @@ fn read_all(alloc: Global, triples: &[Triple]) -> Result<InfoRead, InfoError>
 }
 
 // What the statements of names say, one after another.
-fn read_names(alloc: Global, names: &[InfoName], triples: &[Triple]) -> Result<Draft, InfoError>
+fn read_names(
+    alloc: Global,
+    names: &[InfoName],
+    triples: &[Triple],
+) -> Result<PartialInfo, InfoError>
     ensures { Gives (runs names.now triples.now nothing) result }
 {
     let mut draft = empty();
@@ -56,7 +60,7 @@ fn read_name(
     alloc: Global,
     name: InfoName,
     triples: &[Triple],
-    draft: &mut Draft,
+    draft: &mut PartialInfo,
 ) -> Result<(), InfoError>
     ensures { Tells (stated name (one_of (filter (fits name draft.old) triples.now)) draft.old) result draft.new }
 {
@@ -68,11 +72,11 @@ fn read_name(
 }
 
 // The metadata, of which all is known.
-fn whole(draft: Draft) -> Info
-    requires { IsWhole draft }
+fn whole(draft: PartialInfo) -> Info
+    requires { HasUrns draft }
     ensures { whole_of draft ≡ Some result }
 {
-    let Draft {
+    let PartialInfo {
         volume,
         stream,
         image,
@@ -99,7 +103,7 @@ fn whole(draft: Draft) -> Info
 
 // The places at which no name's first statement stands.
 #[tactic(auto, unfolding(crate::specs::Reading::aside))]
-fn aside(alloc: Global, triples: &[Triple], draft: &Draft) -> Result<Vec<u64>, AllocError>
+fn aside(alloc: Global, triples: &[Triple], draft: &PartialInfo) -> Result<Vec<u64>, AllocError>
     ensures { IfOk result (λ places. places.items ≡ aside triples.now draft.now) }
 {
     let firsts = firsts(alloc, &NAMES, triples, draft)?;
@@ -139,7 +143,7 @@ fn firsts(
     alloc: Global,
     names: &[InfoName],
     triples: &[Triple],
-    draft: &Draft,
+    draft: &PartialInfo,
 ) -> Result<Vec<Option<usize>>, AllocError>
     ensures { IfOk result (λ places. places.items ≡ firsts names.now triples.now draft.now) }
 {

@@ -3,7 +3,7 @@ ghost use Rattle.std.specs.Prelude.{◌≡◌, IfOk};
 ghost use Rattle.std.specs.String.{string_bytes};
 ghost use Rattle.std.specs.Fmt.{decimal};
 ghost use Rattle.aff_turtle.specs.Objects.{term_of};
-ghost use Rattle.aff_info.specs.Values.{is_number_type, number_in, number_of, gap_of, digest_value};
+ghost use Rattle.aff_info.specs.Values.{is_number_type, number_in, stated_number, gap_of, digest_value};
 
 use crate::fits::is_text;
 use crate::schema::{
@@ -16,7 +16,7 @@ use std::alloc::{AllocError, Global};
 
 /// The number that a literal states: in decimal, without a sign or leading zeros.
 pub fn number(alloc: Global, object: &Object) -> Result<Option<u64>, AllocError>
-    ensures { IfOk result (λ n. n ≡ number_of (term_of object.now)) }
+    ensures { IfOk result (λ n. n ≡ stated_number (term_of object.now)) }
 {
     match object {
         Object::Iri(_) => Ok(None),

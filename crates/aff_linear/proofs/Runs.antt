@@ -13,7 +13,7 @@ use Rattle.aff_spec.specs.Streams.{stream_byte}
 use Rattle.aff_spec.specs.Symbols.{unknown_byte, unreadable_byte}
 use Rattle.aff_spec.specs.Walks.{AreImageRuns, stream_bytes}
 use Rattle.aff_spec.proofs.Lookups.{find_covering, find_nothing, covers_before, covers_after, ends_before}
-use Rattle.aff_linear.specs.Feeds.{IsBetween, byte_by, image_byte, image_bytes, run_byte, run_bytes}
+use Rattle.aff_linear.specs.Feeds.{IsBetween, byte_by, image_byte, image_range, run_byte, run_bytes}
 use Rattle.aff_linear.proofs.Pieces.{alike_in, is_range, fed_more}
 
 -- the bytes of an entry of stored bytes are those of the stream
@@ -75,17 +75,17 @@ module _ (size n : ℕ) (entries : List Entry) (runs : AreImageRuns size n entri
             omega (arith, end)
 
     -- what is fed of the gap before an entry, and of the entry
-    pub run_fed : (held : Held) (stream : List ℕ) (at : ℕ) (start before between after : List ℕ) → IsBetween entries k at → at ≤ e.at → before ≡ start ++ image_bytes held stream entries 0 at
-        → between ≡ before ++ map (symbol_of Unknown) (range_with_len at (e.at - at)) → after ≡ between ++ run_bytes held stream e → after ≡ start ++ image_bytes held stream entries 0 (e.at + e.len)
+    pub run_fed : (held : Held) (stream : List ℕ) (at : ℕ) (start before between after : List ℕ) → IsBetween entries k at → at ≤ e.at → before ≡ start ++ image_range held stream entries 0 at
+        → between ≡ before ++ map (symbol_of Unknown) (range_with_len at (e.at - at)) → after ≡ between ++ run_bytes held stream e → after ≡ start ++ image_range held stream entries 0 (e.at + e.len)
     run_fed held stream at start before between after gap low was then last =
         let whole : at + (e.at - at) ≡ e.at = omega (arith, low) in
-        let reached : between ≡ start ++ image_bytes held stream entries 0 (at + (e.at - at)) =
+        let reached : between ≡ start ++ image_range held stream entries 0 (at + (e.at - at)) =
         fed_more (image_byte held stream entries) 0 at (e.at - at) start before between (map (symbol_of Unknown) (range_with_len at (e.at - at))) was then
         (alike_in (symbol_of Unknown) (image_byte held stream entries) at (e.at - at) (λ i from to. sym (between_gap held stream entries k at e.at i gap between_begun from (omega (arith, to, whole))))
-        ∙ ap (λ p. image_bytes held stream entries p (e.at - at)) (omega arith)) in
-        fed_more (image_byte held stream entries) 0 e.at e.len start between after (run_bytes held stream e) (reached ∙ ap (λ p. start ++ image_bytes held stream entries 0 p) whole) last
+        ∙ ap (λ p. image_range held stream entries p (e.at - at)) (omega arith)) in
+        fed_more (image_byte held stream entries) 0 e.at e.len start between after (run_bytes held stream e) (reached ∙ ap (λ p. start ++ image_range held stream entries 0 p) whole) last
         (alike_in (run_byte held stream e) (image_byte held stream entries) e.at e.len (λ i from to. sym (own i from to))
-        ∙ ap (λ p. image_bytes held stream entries p e.len) (omega arith))
+        ∙ ap (λ p. image_range held stream entries p e.len) (omega arith))
       where
         own : (i : ℕ) → e.at ≤ i → i < e.at + e.len → image_byte held stream entries i ≡ run_byte held stream e i
         own i from to =
@@ -100,14 +100,14 @@ module _ (size n : ℕ) (entries : List Entry) (runs : AreImageRuns size n entri
   }
 
   -- what is fed of the gap behind the last entry
-  pub rest_fed : (held : Held) (stream : List ℕ) (at : ℕ) (start before after : List ℕ) → IsBetween entries (length entries) at → at ≤ size → before ≡ start ++ image_bytes held stream entries 0 at
-      → after ≡ before ++ map (symbol_of Unknown) (range_with_len at (size - at)) → after ≡ start ++ image_bytes held stream entries 0 size
+  pub rest_fed : (held : Held) (stream : List ℕ) (at : ℕ) (start before after : List ℕ) → IsBetween entries (length entries) at → at ≤ size → before ≡ start ++ image_range held stream entries 0 at
+      → after ≡ before ++ map (symbol_of Unknown) (range_with_len at (size - at)) → after ≡ start ++ image_range held stream entries 0 size
   rest_fed held stream at start before after gap low was then =
       let whole : at + (size - at) ≡ size = omega (arith, low) in
       fed_more (image_byte held stream entries) 0 at (size - at) start before after (map (symbol_of Unknown) (range_with_len at (size - at))) was then
       (alike_in (symbol_of Unknown) (image_byte held stream entries) at (size - at) (λ i from to. sym (between_gap held stream entries (length entries) at size i gap between_last from (omega (arith, to, whole))))
-      ∙ ap (λ p. image_bytes held stream entries p (size - at)) (omega arith))
-      ∙ ap (λ p. start ++ image_bytes held stream entries 0 p) whole
+      ∙ ap (λ p. image_range held stream entries p (size - at)) (omega arith))
+      ∙ ap (λ p. start ++ image_range held stream entries 0 p) whole
 
 -- a fact about an Ok
 pub on_ok : {T E P Q : Type 0} (r : Result T E) → (P → Q) → OnOk r P → OnOk r Q

@@ -12,7 +12,7 @@ use Rattle.aff_spec.specs.Walks.{IsImageRun, IsStored}
 use Rattle.aff_spec.specs.Words.{is_uuid}
 use Rattle.aff_spec.proofs.Images.{byte_in_gap, byte_of_stream, byte_of_zeros, byte_of_unreadable}
 use Rattle.aff_spec.proofs.Lookups.{found_passes, covered_from}
-use Rattle.aff_linear.specs.Feeds.{byte_by, image_byte, image_bytes, run_byte}
+use Rattle.aff_linear.specs.Feeds.{byte_by, image_byte, image_range, run_byte}
 use Rattle.aff_linear.proofs.Pieces.{alike_in}
 
 module _ (held : Held) (uuid : List ℕ) (size n : ℕ) (entries : List Entry) (ok : is_uuid uuid ≡ true) (is : IsStored held uuid n entries) (each : All (IsImageRun size n) entries) where
@@ -45,5 +45,5 @@ module _ (held : Held) (uuid : List ℕ) (size n : ℕ) (entries : List Entry) (
       ] refl
 
   -- all bytes
-  pub bytes_are : image_bytes held (stream_urn uuid) entries 0 size ≡ volume_bytes held (volume_of uuid) size
+  pub bytes_are : image_range held (stream_urn uuid) entries 0 size ≡ volume_bytes held (volume_of uuid) size
   bytes_are = alike_in (image_byte held (stream_urn uuid) entries) (λ i. unwrap_or (volume_byte held (volume_of uuid) i) 0) 0 size (λ i from to. byte_is i)

@@ -5,6 +5,7 @@ use Rattle.md5.specs.Md5.{md5}
 use Rattle.sha1.specs.Sha1.{sha1}
 use Rattle.sha2.specs.Sha256.{sha256}
 use Rattle.sha2.specs.Sha512.{sha512}
+use Rattle.aff_model.specs.declared.limits.TheConstants.{CHUNK}
 use Rattle.aff_model.specs.Held.{Held}
 use Rattle.aff_fields.specs.declared.entry.Entry.{Entry}
 use Rattle.aff_hash.specs.declared.kind.Digests.{Digests}
@@ -14,7 +15,7 @@ use Rattle.aff_spec.specs.Streams.{stream_byte}
 use Rattle.aff_spec.specs.Symbols.{unknown_byte, unreadable_byte}
 use Rattle.aff_spec.specs.Walks.{AreImageRuns, IsStreamIn}
 
--- the four digests of some bytes: MD5 as RFC 1321 has it, the others as FIPS 180-4 has them
+-- the four digests of some bytes: MD5 (RFC 1321), SHA-1, SHA-256 and SHA-512 (FIPS 180-4), as the toolchain defines them
 pub record AreDigestsOf (digests : Digests) (bytes : List ℕ) : Type 0 where
   pub md5 : digests.md5 ≡ md5 bytes
   pub sha1 : digests.sha1 ≡ sha1 bytes
@@ -26,7 +27,7 @@ pub record AreDigestsOf (digests : Digests) (bytes : List ℕ) : Type 0 where
 pub record IsInStream (tells : Bool) (held : Held) (stream : List ℕ) (at len : ℕ) : Type 0 where
   pub chunks : ℕ
   pub few : bevvy_count chunks ≤ 100000000
-  pub inside : at + len ≤ 32768 * chunks
+  pub inside : at + len ≤ CHUNK * chunks
   pub there : IsTrue tells → IsStreamIn held stream chunks
 
 -- the byte at a place of the image that an entry covers
@@ -55,8 +56,8 @@ abbrev pub image_byte : Held → List ℕ → List Entry → ℕ → ℕ
 image_byte held stream entries i = byte_by held stream i (find (covers i) entries)
 
 -- n bytes of the image from a place on
-abbrev pub image_bytes : Held → List ℕ → List Entry → ℕ → ℕ → List ℕ
-image_bytes held stream entries at n = map (image_byte held stream entries) (range_with_len at n)
+abbrev pub image_range : Held → List ℕ → List Entry → ℕ → ℕ → List ℕ
+image_range held stream entries at n = map (image_byte held stream entries) (range_with_len at n)
 
 -- a place of the image lies behind the first k entries and before the others
 pub record IsBetween (entries : List Entry) (k at : ℕ) : Type 0 where

@@ -5,16 +5,16 @@ ghost use Rattle.aff_spec.specs.Names.{stream_urn};
 ghost use Rattle.aff_spec.specs.Volumes.{volume_of, volume_bytes};
 ghost use Rattle.aff_spec.specs.Walks.{IsWalkable};
 ghost use Rattle.aff_spec.specs.Words.{is_uuid};
-ghost use Rattle.aff_linear.specs.Feeds.{AreDigestsOf, IsBetween, IsImageIn, IsInStream, image_bytes, run_bytes};
+ghost use Rattle.aff_linear.specs.Feeds.{AreDigestsOf, IsBetween, IsImageIn, IsInStream, image_range, run_bytes};
 
 use crate::stored::feed_stored;
 use crate::symbols::feed_symbols;
-use aff_fields::Entry;
+use aff_fields::{Entry, zeros};
 use aff_hash::{Digests, Linear};
 use aff_map::Target;
 use aff_names::Urn;
 use aff_outside::{Folder, FolderError};
-use std::alloc::{AllocError, Global};
+use std::alloc::Global;
 
 // How many bytes are read and hashed at a time.
 const PIECE_LEN: usize = 1_048_576;
@@ -67,7 +67,7 @@ fn feed_image<F: Folder>(
     requires room { 0 < length buffer.old }
     requires size { size ≤ 2 ^ 44 }
     requires image { IsImageIn F.tells (F.held folder.old) stream.now size entries.now }
-    ensures fed { OnOk result (IsTrue F.tells → linear.new ≡ linear.old ++ image_bytes (F.held folder.old) stream.now entries.now 0 size) }
+    ensures fed { OnOk result (IsTrue F.tells → linear.new ≡ linear.old ++ image_range (F.held folder.old) stream.now entries.now 0 size) }
     ensures same { IsTrue F.tells → F.held folder.new ≡ F.held folder.old }
     ensures cause { HasCause (F.folder_faults folder.old) (F.folder_faults folder.new) (IsErrOf result FolderError.Failed) }
 {
@@ -95,7 +95,7 @@ fn feed_entries<F: Folder>(
     requires image { IsImageIn F.tells (F.held folder.old) stream.now size entries.now }
     ensures last { IfOk result (λ at. IsBetween entries.now (length entries.now) at) }
     ensures inside { IfOk result (λ at. at ≤ size) }
-    ensures fed { IfOk result (λ at. IsTrue F.tells → linear.new ≡ linear.old ++ image_bytes (F.held folder.old) stream.now entries.now 0 at) }
+    ensures fed { IfOk result (λ at. IsTrue F.tells → linear.new ≡ linear.old ++ image_range (F.held folder.old) stream.now entries.now 0 at) }
     ensures same { IsTrue F.tells → F.held folder.new ≡ F.held folder.old }
     ensures cause { HasCause (F.folder_faults folder.old) (F.folder_faults folder.new) (IsErrOf result FolderError.Failed) }
 {
@@ -153,11 +153,4 @@ fn stream_of(alloc: Global, uuid: &str) -> Result<Urn, FolderError>
 {
     let text = format!(in alloc; "aff4://{uuid}/data")?;
     Urn::read(alloc, &text).map_err(|_| FolderError::Memory)
-}
-
-// A buffer of a length.
-fn zeros(alloc: Global, len: usize) -> Result<Vec<u8>, AllocError>
-    ensures { IfOk result (λ bytes. length bytes.items ≡ len) }
-{
-    vec![in alloc; 0; len]
 }

@@ -4,7 +4,8 @@ use Rattle.std.specs.Prelude.{Option, Some, None, IsSome}
 use Rattle.std.specs.List.{cons_option, filter_map}
 use Rattle.std.proofs.lemmas.List.{get_or_default, map-append}
 use Rattle.std.proofs.lemmas.List.Elements.{All-append, All-cons, All-nil, filter_map-append}
-use Rattle.aff_spec.specs.Volumes.{lines_of, targets_text}
+use Rattle.aff_spec.specs.Lines.{lines_of}
+use Rattle.aff_spec.specs.Volumes.{targets_text}
 use Rattle.aff_map.specs.declared.target.Target.{Target}
 use Rattle.aff_map.specs.Targets.{IsFirstUnnamed, IsNamed, target_lines, target_of, without_last_feed}
 

@@ -6,19 +6,19 @@ use Rattle.aff_map.specs.declared.error.MapError.{MapError}
 use Rattle.aff_map.specs.declared.error.MapError.TheVariants.{Ragged, Empty, PastEnd, Overlap, NoTarget, BadTarget, PastTarget, Memory}
 use Rattle.aff_map.specs.declared.target.Target.{Target}
 use Rattle.aff_map.specs.Mapped.{AreApart, IsEntry, IsSound}
-use Rattle.aff_map.specs.Refusals.{IsFault, IsFirstOverlap, IsOwnFault}
+use Rattle.aff_map.specs.Refusals.{IsMapFault, IsFirstOverlap, IsOwnFault}
 use Rattle.aff_map.specs.Targets.{IsFirstUnnamed, IsNamed, target_lines, targets_of}
 
 module _ (map idx : List ℕ) (size : ℕ) (stream : List ℕ) (stream_size : ℕ) where
-  pub ragged_fault : (f : MapError) → (length map % 28 ≢ 0) × (f ≡ Ragged (length map)) → IsFault map idx size stream stream_size f
-  ragged_fault f h = subst (IsFault map idx size stream stream_size) (sym h.1) (h.0, refl)
+  pub ragged_fault : (f : MapError) → (length map % 28 ≢ 0) × (f ≡ Ragged (length map)) → IsMapFault map idx size stream stream_size f
+  ragged_fault f h = subst (IsMapFault map idx size stream stream_size) (sym h.1) (h.0, refl)
 
   module _ (whole : length map % 28 ≡ 0) where
-    pub line_fault : (f : MapError) → (line : ℕ) × (f ≡ BadTarget line) × IsFirstUnnamed stream (target_lines idx) line → IsFault map idx size stream stream_size f
-    line_fault f h = subst (IsFault map idx size stream stream_size) (sym h.1) (whole, h.2)
+    pub line_fault : (f : MapError) → (line : ℕ) × (f ≡ BadTarget line) × IsFirstUnnamed stream (target_lines idx) line → IsMapFault map idx size stream stream_size f
+    line_fault f h = subst (IsMapFault map idx size stream stream_size) (sym h.1) (whole, h.2)
 
     module _ (named : All (IsNamed stream) (target_lines idx)) where
-      own_fault-read : (f : MapError) → IsOwnFault size stream_size (targets_of stream idx) (entries_of map) f → IsFault map idx size stream stream_size f
+      own_fault-read : (f : MapError) → IsOwnFault size stream_size (targets_of stream idx) (entries_of map) f → IsMapFault map idx size stream stream_size f
       own_fault-read (Empty e) own = record { whole = whole; named = named; own = own }
       own_fault-read (PastEnd e) own = record { whole = whole; named = named; own = own }
       own_fault-read (NoTarget e) own = record { whole = whole; named = named; own = own }
@@ -29,7 +29,7 @@ module _ (map idx : List ℕ) (size : ℕ) (stream : List ℕ) (stream_size : �
       own_fault-read Memory own = absurd own.breaks
 
       module _ (es : List Entry) (ts : List Target) (read : es ≡ entries_of map) (listed : ts ≡ targets_of stream idx) where
-        pub own_fault : (f : MapError) → IsOwnFault size stream_size ts es f → IsFault map idx size stream stream_size f
+        pub own_fault : (f : MapError) → IsOwnFault size stream_size ts es f → IsMapFault map idx size stream stream_size f
         own_fault f own =
             own_fault-read f (subst (λ v. IsOwnFault size stream_size (targets_of stream idx) v f) read (subst (λ v. IsOwnFault size stream_size v es f) listed own))
 
@@ -37,7 +37,7 @@ module _ (map idx : List ℕ) (size : ℕ) (stream : List ℕ) (stream_size : �
         each_read each =
             subst (λ v. All (IsEntry size stream_size (targets_of stream idx)) v) read (subst (λ v. All (IsEntry size stream_size v) es) listed each)
 
-        pub overlap_fault : All (IsEntry size stream_size ts) es → (a b : ℕ) → IsFirstOverlap es a b → IsFault map idx size stream stream_size (Overlap a b)
+        pub overlap_fault : All (IsEntry size stream_size ts) es → (a b : ℕ) → IsFirstOverlap es a b → IsMapFault map idx size stream stream_size (Overlap a b)
         overlap_fault each a b overlap =
             record { whole = whole; named = named; each = each_read each; overlap = subst (λ v. IsFirstOverlap v a b) read overlap }
 

@@ -10,7 +10,7 @@ use Rattle.aff_map.specs.declared.error.MapError.{MapError}
 use Rattle.aff_map.specs.declared.error.MapError.TheVariants.{Ragged, Empty, PastEnd, Overlap, NoTarget, BadTarget, PastTarget, Memory}
 use Rattle.aff_map.specs.declared.target.Target.{Target}
 use Rattle.aff_map.specs.Mapped.{AreApart, IsEntry, IsSound}
-use Rattle.aff_map.specs.Refusals.{Breaks, IsEntryFault, IsFault, IsFirstOverlap, IsOverlapFault, IsOwnFault, entry_at, no_entry}
+use Rattle.aff_map.specs.Refusals.{Breaks, IsEntryFault, IsMapFault, IsFirstOverlap, IsOverlapFault, IsOwnFault, entry_at, no_entry}
 use Rattle.aff_map.specs.Targets.{IsFirstUnnamed, IsNamed, target_lines, target_of, targets_of}
 
 -- the rule that an entry breaks first, by the tests of the rules
@@ -179,7 +179,7 @@ module _ (map idx : List ℕ) (size : ℕ) (stream : List ℕ) (stream_size : �
   OfEntry (Overlap a b) = Unit {0}
   OfEntry Memory = ⊥
 
-  after_length : (f : MapError) → IsFault map idx size stream stream_size f → AfterLength f
+  after_length : (f : MapError) → IsMapFault map idx size stream stream_size f → AfterLength f
   after_length (Ragged len) h = tt
   after_length (BadTarget line) h = h.0
   after_length (Empty e) h = h.whole
@@ -189,7 +189,7 @@ module _ (map idx : List ℕ) (size : ℕ) (stream : List ℕ) (stream_size : �
   after_length (Overlap a b) h = h.whole
   after_length Memory h = h
 
-  after_lines : (f : MapError) → IsFault map idx size stream stream_size f → AfterLines f
+  after_lines : (f : MapError) → IsMapFault map idx size stream stream_size f → AfterLines f
   after_lines (Ragged len) h = tt
   after_lines (BadTarget line) h = tt
   after_lines (Empty e) h = h.named
@@ -199,7 +199,7 @@ module _ (map idx : List ℕ) (size : ℕ) (stream : List ℕ) (stream_size : �
   after_lines (Overlap a b) h = h.named
   after_lines Memory h = h
 
-  of_entry : (f : MapError) → IsFault map idx size stream stream_size f → OfEntry f
+  of_entry : (f : MapError) → IsMapFault map idx size stream stream_size f → OfEntry f
   of_entry (Ragged len) h = tt
   of_entry (BadTarget line) h = tt
   of_entry (Empty e) h = h.own
@@ -210,7 +210,7 @@ module _ (map idx : List ℕ) (size : ℕ) (stream : List ℕ) (stream_size : �
   of_entry Memory h = h
 
   -- segments meet one refusal first
-  pub same_fault : (f g : MapError) → IsFault map idx size stream stream_size f → IsFault map idx size stream stream_size g → f ≡ g
+  pub same_fault : (f g : MapError) → IsMapFault map idx size stream stream_size f → IsMapFault map idx size stream stream_size g → f ≡ g
   same_fault Memory g h q = absurd h
   same_fault f Memory h q = absurd q
   same_fault (Ragged a) (Ragged b) h q = ap Ragged (h.1 ∙ sym q.1)
@@ -225,7 +225,7 @@ module _ (map idx : List ℕ) (size : ℕ) (stream : List ℕ) (stream_size : �
   same_fault f g h q = same_own size stream_size (targets_of stream idx) (entries_of map) f g (of_entry f h) (of_entry g q)
 
   -- sound ones meet none
-  pub no_fault : (f : MapError) → IsSound map idx size stream stream_size → ¬ (IsFault map idx size stream stream_size f)
+  pub no_fault : (f : MapError) → IsSound map idx size stream stream_size → ¬ (IsMapFault map idx size stream stream_size f)
   no_fault (Ragged len) sound h = h.0 sound.whole
   no_fault (BadTarget line) sound h = not_all_named stream (target_lines idx) line h.1 sound.named
   no_fault (Overlap a b) sound h =
@@ -245,14 +245,14 @@ module _ (map idx : List ℕ) (size : ℕ) (stream : List ℕ) (stream_size : �
   memory_or (Overlap a b) = inr (λ e. cc)
 
   -- what an answer says of sound segments, and of those that meet a refusal
-  pub is_taken : {M : Type 0} (r : Result M MapError) → IfErr r (λ e. e ≢ Memory → IsFault map idx size stream stream_size e) → IsSound map idx size stream stream_size → IsOkUnless r Memory
+  pub is_taken : {M : Type 0} (r : Result M MapError) → IfErr r (λ e. e ≢ Memory → IsMapFault map idx size stream stream_size e) → IsSound map idx size stream stream_size → IsOkUnless r Memory
   is_taken (Ok m) refused sound = tt
   is_taken (Err f) refused sound = elim (memory_or f) [
     | inl is ↦ is
     | inr other ↦ absurd (no_fault f sound (refused other))
   ]
 
-  pub is_told : {M : Type 0} (r : Result M MapError) → OnOk r (IsSound map idx size stream stream_size) → IfErr r (λ e. e ≢ Memory → IsFault map idx size stream stream_size e) → (g : MapError) → IsFault map idx size stream stream_size g → (r ≡ Err g) ⊎ (r ≡ Err Memory)
+  pub is_told : {M : Type 0} (r : Result M MapError) → OnOk r (IsSound map idx size stream stream_size) → IfErr r (λ e. e ≢ Memory → IsMapFault map idx size stream stream_size e) → (g : MapError) → IsMapFault map idx size stream stream_size g → (r ≡ Err g) ⊎ (r ≡ Err Memory)
   is_told (Ok m) sound refused g fault = absurd (no_fault g sound fault)
   is_told (Err f) sound refused g fault = elim (memory_or f) [
     | inl is ↦ inr (ap Err is)

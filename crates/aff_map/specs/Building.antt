@@ -1,6 +1,7 @@
 -- A map while it is made, from the image's first byte on.
 use Rattle.std.specs.Prelude.{◌≡◌, ℕ, ◌+◌, ◌-◌, ◌/◌, ◌<◌, ◌≤◌, ◌==◌, List, length, Option, Some, All, AllPairs, slice_get, if◌then◌else◌}
 use Rattle.std.specs.List.{AllAdjacentBelow, list_any}
+use Rattle.aff_model.specs.declared.limits.TheConstants.{CHUNK}
 use Rattle.aff_model.specs.declared.extent.Extent.{Extent}
 use Rattle.aff_model.specs.declared.publication.Place.{Place}
 use Rattle.aff_model.specs.Cells.{sector_in}
@@ -35,4 +36,4 @@ sector_spot e bad place i = if list_any (λ s. s == sector_in e i) bad then Some
 
 -- the spot of a byte of an extent by its unreadable sectors and the places of its chunks
 abbrev pub extent_spot : Extent → List ℕ → List Place → ℕ → Option Spot
-extent_spot e bad places i = sector_spot e bad (slice_get places ((i - e.at) / 32768)) i
+extent_spot e bad places i = sector_spot e bad (slice_get places ((i - e.at) / CHUNK)) i

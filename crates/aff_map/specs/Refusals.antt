@@ -70,12 +70,12 @@ pub record IsOverlapFault (map idx : List ℕ) (size : ℕ) (stream : List ℕ) 
 
 -- the refusal that segments meet: the map's length, then the lines, then entry by entry from 0, and overlaps after all
 -- entries; want of memory is no fault of the segments
-abbrev pub IsFault : List ℕ → List ℕ → ℕ → List ℕ → ℕ → MapError → Type 0
-IsFault map idx size stream stream_size (Ragged len) = (length map % 28 ≢ 0) × (len ≡ length map)
-IsFault map idx size stream stream_size (BadTarget line) = (length map % 28 ≡ 0) × IsFirstUnnamed stream (target_lines idx) line
-IsFault map idx size stream stream_size (Empty e) = IsEntryFault map idx size stream stream_size (Empty e)
-IsFault map idx size stream stream_size (PastEnd e) = IsEntryFault map idx size stream stream_size (PastEnd e)
-IsFault map idx size stream stream_size (NoTarget e) = IsEntryFault map idx size stream stream_size (NoTarget e)
-IsFault map idx size stream stream_size (PastTarget e) = IsEntryFault map idx size stream stream_size (PastTarget e)
-IsFault map idx size stream stream_size (Overlap a b) = IsOverlapFault map idx size stream stream_size a b
-IsFault map idx size stream stream_size Memory = ⊥
+abbrev pub IsMapFault : List ℕ → List ℕ → ℕ → List ℕ → ℕ → MapError → Type 0
+IsMapFault map idx size stream stream_size (Ragged len) = (length map % 28 ≢ 0) × (len ≡ length map)
+IsMapFault map idx size stream stream_size (BadTarget line) = (length map % 28 ≡ 0) × IsFirstUnnamed stream (target_lines idx) line
+IsMapFault map idx size stream stream_size (Empty e) = IsEntryFault map idx size stream stream_size (Empty e)
+IsMapFault map idx size stream stream_size (PastEnd e) = IsEntryFault map idx size stream stream_size (PastEnd e)
+IsMapFault map idx size stream stream_size (NoTarget e) = IsEntryFault map idx size stream stream_size (NoTarget e)
+IsMapFault map idx size stream stream_size (PastTarget e) = IsEntryFault map idx size stream stream_size (PastTarget e)
+IsMapFault map idx size stream stream_size (Overlap a b) = IsOverlapFault map idx size stream stream_size a b
+IsMapFault map idx size stream stream_size Memory = ⊥

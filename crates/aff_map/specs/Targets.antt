@@ -3,7 +3,7 @@ use Rattle.std.specs.Prelude.{◌≡◌, ℕ, ◌+◌, ◌-◌, ◌<◌, ◌==�
 use Rattle.std.specs.List.{filter_map}
 use Rattle.std.specs.Str.{bytes_eq}
 use Rattle.aff_spec.specs.Names.{zero_iri, unknown_iri, unreadable_iri}
-use Rattle.aff_spec.specs.Volumes.{lines_of}
+use Rattle.aff_spec.specs.Lines.{lines_of}
 use Rattle.aff_map.specs.declared.target.Target.{Target}
 use Rattle.aff_map.specs.declared.target.Target.TheVariants.{Stored, Zero, Unknown, Unreadable}
 

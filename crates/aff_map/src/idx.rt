@@ -2,7 +2,8 @@
 ghost use Rattle.std.specs.Prelude.{◌≡◌, ◌≢◌, ℕ, All, IfOk, IfErr, OnOk};
 ghost use Rattle.std.specs.List.{filter_map};
 ghost use Rattle.std.specs.String.{string_bytes};
-ghost use Rattle.aff_spec.specs.Volumes.{lines_of, targets_text};
+ghost use Rattle.aff_spec.specs.Lines.{lines_of};
+ghost use Rattle.aff_spec.specs.Volumes.{targets_text};
 ghost use Rattle.aff_map.specs.Targets.{IsFirstUnnamed, IsNamed, target_lines, target_of, targets_of, without_last_feed};
 
 use crate::{MapError, Target};

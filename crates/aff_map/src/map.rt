@@ -4,7 +4,7 @@ ghost use Rattle.aff_fields.specs.Entry.{entries_of};
 ghost use Rattle.aff_spec.specs.Runs.{covers, lookup};
 ghost use Rattle.aff_map.specs.Targets.{targets_of};
 ghost use Rattle.aff_map.specs.Mapped.{IsSound};
-ghost use Rattle.aff_map.specs.Refusals.{IsFault, fault_of};
+ghost use Rattle.aff_map.specs.Refusals.{IsMapFault, fault_of};
 ghost use Rattle.aff_map.specs.Finding.{EndsAt, GoesOn, IsGapEnd, LeadsTo, ReachesInto};
 
 use crate::entry::{check_entries, numbered_target};
@@ -63,11 +63,11 @@ impl Map {
     ) -> Result<Map, MapError>
         ensures map { IfOk result (λ m. m ≡ record { entries = entries_of map.now; targets = targets_of stream.now idx.now; size = size; stream_size = stream_size; gap = gap }) }
         ensures sound { OnOk result (IsSound map.now idx.now size stream.now stream_size) }
-        ensures refused { IfErr result (λ e. e ≢ MapError.Memory → IsFault map.now idx.now size stream.now stream_size e) }
+        ensures refused { IfErr result (λ e. e ≢ MapError.Memory → IsMapFault map.now idx.now size stream.now stream_size e) }
 
         // Want of memory aside, each sound map is opened and each refusal is told.
         ensures taken { IsSound map.now idx.now size stream.now stream_size → IsOkUnless result MapError.Memory }
-        ensures told { (e : MapError) → IsFault map.now idx.now size stream.now stream_size e → (result ≡ Err e) ⊎ (result ≡ Err MapError.Memory) }
+        ensures told { (e : MapError) → IsMapFault map.now idx.now size stream.now stream_size e → (result ≡ Err e) ⊎ (result ≡ Err MapError.Memory) }
     {
         read(alloc, map, idx, size, stream, stream_size, gap)
     }
@@ -105,7 +105,7 @@ fn read(
 ) -> Result<Map, MapError>
     ensures map { IfOk result (λ m. m ≡ record { entries = entries_of map.now; targets = targets_of stream.now idx.now; size = size; stream_size = stream_size; gap = gap }) }
     ensures sound { OnOk result (IsSound map.now idx.now size stream.now stream_size) }
-    ensures refused { IfErr result (λ e. e ≢ MapError.Memory → IsFault map.now idx.now size stream.now stream_size e) }
+    ensures refused { IfErr result (λ e. e ≢ MapError.Memory → IsMapFault map.now idx.now size stream.now stream_size e) }
 {
     let entries = match whole_entries(alloc, map) {
         Ok(entries) => entries,

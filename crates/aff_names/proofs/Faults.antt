@@ -6,7 +6,7 @@ use Rattle.std.specs.Result.{IsErrAnd}
 use Rattle.std.proofs.lemmas.Bool.{both_ways, cases_order}
 use Rattle.std.proofs.lemmas.Bool.Decides.{Decides-eqb}
 use Rattle.std.proofs.lemmas.Slice.Eq.{starts_is}
-use Rattle.aff_names.specs.Refused.{IsFault}
+use Rattle.aff_names.specs.Refused.{IsNameFault}
 use Rattle.aff_names.specs.Urn.{HasScheme, IsFirstBad, IsUrn, may_be_at}
 use Rattle.aff_names.specs.declared.error.NameError.{NameError}
 use Rattle.aff_names.specs.declared.error.NameError.TheVariants.{NoScheme, BadUuid, Memory}
@@ -15,7 +15,7 @@ use Rattle.aff_names.proofs.Places.{good_from_urn}
 pub scheme_of_urn : (text : List ℕ) → IsUrn text → HasScheme text
 scheme_of_urn text urn = record { rest = urn.uuid ++ urn.path; is = urn.is }
 
-pub urn_has_no_fault : (text : List ℕ) (fault : NameError) → IsUrn text → ¬ IsFault text fault
+pub urn_has_no_fault : (text : List ℕ) (fault : NameError) → IsUrn text → ¬ IsNameFault text fault
 urn_has_no_fault text NoScheme urn h = h (scheme_of_urn text urn)
 urn_has_no_fault text (BadUuid at) urn h = both_ways (may_be_at at (slice_get text at)) h.1.bad (good_from_urn text urn at h.1.low h.1.high)
 urn_has_no_fault text Memory urn h = h
@@ -33,7 +33,7 @@ one_first text at k first other =
       ]
     ]
 
-pub one_fault : (text : List ℕ) (fault other : NameError) → IsFault text fault → IsFault text other → fault ≡ other
+pub one_fault : (text : List ℕ) (fault other : NameError) → IsNameFault text fault → IsNameFault text other → fault ≡ other
 one_fault text NoScheme NoScheme h o = refl
 one_fault text NoScheme (BadUuid k) h o = absurd (h o.0)
 one_fault text NoScheme Memory h o = absurd o
@@ -44,9 +44,9 @@ one_fault text Memory other h o = absurd h
 
 module _ {U : Type 0} (text : List ℕ) (r : Result U NameError) where
   -- an answer with the fault tells the place where a byte is bad
-  pub told_by_fault : (fault : NameError) → r ≡ Err fault → IsFault text fault → (at : ℕ) → (r ≡ Err (BadUuid at)) ↔ (HasScheme text × IsFirstBad text at)
+  pub told_by_fault : (fault : NameError) → r ≡ Err fault → IsNameFault text fault → (at : ℕ) → (r ≡ Err (BadUuid at)) ↔ (HasScheme text × IsFirstBad text at)
   told_by_fault fault e h at =
-      (λ q. let same : fault ≡ BadUuid at = cc in subst (IsFault text) same h, λ bad. e ∙ ap Err (one_fault text fault (BadUuid at) h bad))
+      (λ q. let same : fault ≡ BadUuid at = cc in subst (IsNameFault text) same h, λ bad. e ∙ ap Err (one_fault text fault (BadUuid at) h bad))
 
   -- an answer to a URN tells no place
   pub told_by_urn : IsUrn text → ((at : ℕ) → r ≢ Err (BadUuid at)) → (at : ℕ) → (r ≡ Err (BadUuid at)) ↔ (HasScheme text × IsFirstBad text at)

@@ -5,7 +5,7 @@ use Rattle.aff_names.specs.declared.error.NameError.{NameError}
 use Rattle.aff_names.specs.declared.error.NameError.TheVariants.{NoScheme, BadUuid, Memory}
 
 -- this is what is wrong with the text; want of memory is never the text's fault
-abbrev pub IsFault : List ℕ → NameError → Type 0
-IsFault text NoScheme = ¬ HasScheme text
-IsFault text (BadUuid at) = HasScheme text × IsFirstBad text at
-IsFault text Memory = ⊥
+abbrev pub IsNameFault : List ℕ → NameError → Type 0
+IsNameFault text NoScheme = ¬ HasScheme text
+IsNameFault text (BadUuid at) = HasScheme text × IsFirstBad text at
+IsNameFault text Memory = ⊥

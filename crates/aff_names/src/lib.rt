@@ -2,7 +2,7 @@
 //! type from then on.
 //!
 //! A URN is `aff4://`, a UUID, and nothing or a `/` with any text. Its folder is named by its text, with
-//! each byte that a file name may lack escaped as `%` and two digits.
+//! each byte that a file name may lack percent_encoded as `%` and two digits.
 #![tactic(auto)]
 
 mod error;

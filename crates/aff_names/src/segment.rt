@@ -8,14 +8,14 @@ use aff_model::Memory;
 use percent_encoding::{AsciiSet, NON_ALPHANUMERIC, ascii_set, ascii_str, utf8_percent_encode};
 use std::alloc::{AllocError, Global};
 
-// What a folder's name has escaped: all but letters, digits, `-`, `.` and `_`.
+// What a folder's name has percent_encoded: all but letters, digits, `-`, `.` and `_`.
 const ESCAPED: AsciiSet = ascii_set!(NON_ALPHANUMERIC.remove(b'-').remove(b'.').remove(b'_'));
 
 /// The name of the folder in which the segments of a URN lie.
 pub fn folder_name(alloc: Global, urn: &Urn) -> Result<String, Memory>
     ensures { IfOk result (λ name. string_bytes name ≡ names.folder_name urn.now) }
 {
-    escaped(alloc, urn.text()).map_err(|_| Memory)
+    percent_encoded(alloc, urn.text()).map_err(|_| Memory)
 }
 
 /// The name of a numbered segment of a stream: a bevvy, or with a suffix what belongs to it.
@@ -39,7 +39,7 @@ pub fn named_segment(alloc: Global, image: &Urn, name: &str) -> Result<String, M
 }
 
 // A text as a folder is named by it.
-fn escaped(alloc: Global, text: &str) -> Result<String, AllocError>
+fn percent_encoded(alloc: Global, text: &str) -> Result<String, AllocError>
     ensures { IfOk result (λ name. string_bytes name ≡ names.folder_name text.now) }
 {
     let mut name = String::new(alloc);
@@ -52,7 +52,7 @@ fn numbered(alloc: Global, text: &str, number: u32, suffix: &str) -> Result<Stri
     requires { number < 100000000 }
     ensures { IfOk result (λ name. string_bytes name ≡ names.segment_in text.now (names.eight_digits number ++ suffix.now)) }
 {
-    let folder = escaped(alloc, text)?;
+    let folder = percent_encoded(alloc, text)?;
     let digits = eight_digits(number);
     let digits = ascii_str(&digits);
     format!(in alloc; "{folder}/{digits}{suffix}")
@@ -62,7 +62,7 @@ fn numbered(alloc: Global, text: &str, number: u32, suffix: &str) -> Result<Stri
 fn named(alloc: Global, text: &str, name: &str) -> Result<String, AllocError>
     ensures { IfOk result (λ segment. string_bytes segment ≡ names.segment_in text.now name.now) }
 {
-    let folder = escaped(alloc, text)?;
+    let folder = percent_encoded(alloc, text)?;
     format!(in alloc; "{folder}/{name}")
 }
 

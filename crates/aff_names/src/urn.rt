@@ -1,6 +1,6 @@
 //! A URN.
 ghost use Rattle.std.specs.Prelude.{◌≡◌, ◌≤◌, ◌↔◌, ◌++◌, codes, ℕ, Option, true, MatchOption, IfOk, OnOk, IsOkUnless, IsTrue, slice_get};
-ghost use Rattle.aff_names.specs.Refused.{IsFault};
+ghost use Rattle.aff_names.specs.Refused.{IsNameFault};
 ghost use Rattle.aff_spec.specs.Names.{image_urn, stream_urn, volume_urn};
 ghost use Rattle.aff_names.specs.Urn.{HasScheme, IsFirstBad, IsPath, IsUrn, may_be_at as spec_may_be_at};
 
@@ -101,7 +101,7 @@ fn copied(alloc: Global, urn: &Urn) -> Result<Urn, AllocError>
 
 // What keeps bytes from being a URN.
 fn fault(bytes: &[u8]) -> Option<NameError>
-    ensures { MatchOption result (IsUrn bytes.now) (IsFault bytes.now) }
+    ensures { MatchOption result (IsUrn bytes.now) (IsNameFault bytes.now) }
 {
     if !bytes.starts_with(b"aff4://") {
         return Some(NameError::NoScheme);

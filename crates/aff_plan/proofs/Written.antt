@@ -13,7 +13,8 @@ use Rattle.aff_model.specs.Plan.{IsExtent, IsPlan}
 use Rattle.aff_spec.specs.PlanText.{FitsExtent, extent_line, plan_text}
 use Rattle.aff_plan.specs.Line.{IsExtentLine, words_of}
 use Rattle.aff_plan.specs.Refused.{AreLinesOf, IsTextOf}
-use Rattle.aff_plan.specs.Text.{NumberedLine, is_session, is_skipped, kept_lines, lines_of, numbered_lines}
+use Rattle.aff_plan.specs.Text.{NumberedLine, is_session, is_skipped, kept_lines, numbered_lines}
+use Rattle.aff_spec.specs.Lines.{lines_of}
 use Rattle.aff_plan.proofs.Walk.{lines_from, lines_from-line}
 
 abbrev Lacks : ℕ → List ℕ → Type 0

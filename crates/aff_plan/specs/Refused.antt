@@ -75,5 +75,5 @@ AreRefused size block lines Memory = ⊥
 AreRefused size block lines error = IsFirstWrong size block lines error
 
 -- for what a text is refused
-abbrev pub IsRefused : ℕ → ℕ → List ℕ → PlanError → Type 0
-IsRefused size block text error = AreRefused size block (numbered_lines text) error
+abbrev pub IsPlanRefused : ℕ → ℕ → List ℕ → PlanError → Type 0
+IsPlanRefused size block text error = AreRefused size block (numbered_lines text) error

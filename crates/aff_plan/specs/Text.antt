@@ -1,11 +1,8 @@
 -- The lines of a plan's text, and the numbers that they have in it.
 use Rattle.std.specs.Prelude.{ℕ, ◌==◌, Bool, true, not, List, [], ◌∷◌, filter, map, codes, slice_index}
-use Rattle.std.specs.List.{slice_split, before_first, enumerate_from}
+use Rattle.std.specs.List.{before_first, enumerate_from}
 use Rattle.std.specs.Str.{bytes_eq}
-
--- the lines of a text: its parts between line feeds; what stands behind the last one is a line too, perhaps an empty one
-abbrev pub lines_of : List ℕ → List (List ℕ)
-lines_of text = slice_split (λ b. b == 10) text
+use Rattle.aff_spec.specs.Lines.{lines_of}
 
 -- the line with which a script begins
 abbrev pub is_session : List ℕ → Bool

@@ -6,7 +6,7 @@ ghost use Rattle.aff_model.specs.Plan.{IsPlan};
 ghost use Rattle.aff_model.specs.declared.extent.Extent.{Extent};
 ghost use Rattle.aff_spec.specs.PlanText.{plan_text};
 ghost use Rattle.aff_plan.specs.Reading.{IsReading};
-ghost use Rattle.aff_plan.specs.Refused.{AreRefused, IsRefused, IsTextOf};
+ghost use Rattle.aff_plan.specs.Refused.{AreRefused, IsPlanRefused, IsTextOf};
 ghost use Rattle.aff_plan.specs.Text.{NumberedLine};
 
 use crate::error::PlanError;
@@ -19,14 +19,14 @@ use std::alloc::Global;
 pub fn read_plan(alloc: Global, text: &[u8], size: u64, block: u32) -> Result<Plan, PlanError>
     requires block { IsBlock block }
     ensures plan { IfOk result (λ p. IsTextOf size block text.now p.extents × (p.size ≡ size) × (p.block ≡ block)) }
-    ensures refused { IfErr result (λ e. e ≢ PlanError.Memory → IsRefused size block text.now e) }
+    ensures refused { IfErr result (λ e. e ≢ PlanError.Memory → IsPlanRefused size block text.now e) }
 
     // Want of memory aside, each text of a plan is taken, a written one too, and each refusal is told.
     ensures taken { (extents : List Extent) → IsTextOf size block text.now extents
         → IfOk result (λ p. p.extents ≡ extents) × (IsOk result ⊎ (result ≡ Err PlanError.Memory)) }
     ensures written { (extents : List Extent) → IsPlan size block extents → text.now ≡ plan_text extents
         → IfOk result (λ p. p.extents ≡ extents) × (IsOk result ⊎ (result ≡ Err PlanError.Memory)) }
-    ensures told { (e : PlanError) → IsRefused size block text.now e → (result ≡ Err e) ⊎ (result ≡ Err PlanError.Memory) }
+    ensures told { (e : PlanError) → IsPlanRefused size block text.now e → (result ≡ Err e) ⊎ (result ≡ Err PlanError.Memory) }
 {
     let mut lines = Lines::new(alloc);
     let stop = lines.read(text)?;

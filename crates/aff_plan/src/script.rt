@@ -1,7 +1,8 @@
 //! Where a script begins.
 ghost use Rattle.std.specs.Prelude.{◌≡◌, ◌+◌, position};
 ghost use Rattle.std.specs.Option.{option_map};
-ghost use Rattle.aff_plan.specs.Text.{is_session, lines_of};
+ghost use Rattle.aff_plan.specs.Text.{is_session};
+ghost use Rattle.aff_spec.specs.Lines.{lines_of};
 
 use crate::cut::cut_at;
 

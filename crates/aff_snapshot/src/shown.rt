@@ -35,9 +35,9 @@ pub struct Sight {
 }
 
 /// What each seat has seen is a beginning of what is published.
-pub struct Shown;
+pub struct FrontRule;
 
-impl Protocol<Front, Sight> for Shown {
+impl Protocol<Front, Sight> for FrontRule {
     ghost use Rattle.aff_snapshot.specs.Sights.{HaveSeen, blind};
 
     ghost holds = { HaveSeen };
@@ -71,9 +71,9 @@ impl Join<Sight> for Hint {
     ghost spent = { blind };
 }
 
-pub type Eye = Reader<Front, Sight, Shown>;
+pub type Eye = Reader<Front, Sight, FrontRule>;
 
-pub type Hand = Writer<Front, Front, Sight, Shown>;
+pub type Hand = Writer<Front, Front, Sight, FrontRule>;
 
 /// Holds the writer, so that a value with a writer in it may be let go, and so stand behind a lock. A writer ends by
 /// `take`, which waits; one that is let go here is leaked, with its two fronts.

@@ -1,9 +1,9 @@
--- No two texts are escaped alike, and none has a `/` then.
+-- No two texts are percent_encoded alike, and none has a `/` then.
 use Rattle.std.proofs.Common.{◌≡◌, ℕ, ◌/◌, ◌%◌, Bool, true, false, List, [], ◌∷◌, ◌++◌, refl, sym, ap, cond, arith, inl, inr}
 use Rattle.std.specs.Prelude.{◌≢◌, Contains}
 use Rattle.std.proofs.lemmas.Bool.Decides.{nat_tests}
 use Rattle.std.proofs.lemmas.List.Elements.{Contains-append_cases, Contains-push_cases}
-use Rattle.aff_spec.specs.Names.{escaped, is_plain, hex_digit, folder_name}
+use Rattle.aff_spec.specs.Names.{percent_encoded, is_plain, hex_digit, folder_name}
 use Rattle.aff_spec.specs.NameLaws.{FoldersDiffer, FoldersHaveNoSlash}
 
 not_plain : (b c : ℕ) → is_plain c ≡ false → is_plain b ≡ true → b ≢ c
@@ -15,7 +15,7 @@ hex_same m n e = grind (arith, nat_tests)
 hex_is_no_slash : (n : ℕ) → hex_digit n ≢ 47
 hex_is_no_slash n e = grind (arith, nat_tests)
 
--- a byte as it is where it is plain, else escaped
+-- a byte as it is where it is plain, else percent_encoded
 abbrev shape : ℕ → Bool → List ℕ
 shape b plain = cond plain (b ∷ []) (37 ∷ hex_digit (b / 16) ∷ hex_digit (b % 16) ∷ [])
 
@@ -59,7 +59,7 @@ shape_has_none b false h =
 pub folder_has_no_slash : (urn : List ℕ) → NoSlash (folder_name urn)
 folder_has_no_slash [] = tt
 folder_has_no_slash (b ∷ bytes) =
-    NoSlash-append (escaped b) (folder_name bytes) (shape_has_none b (is_plain b) refl) (folder_has_no_slash bytes)
+    NoSlash-append (percent_encoded b) (folder_name bytes) (shape_has_none b (is_plain b) refl) (folder_has_no_slash bytes)
 
 none_in_none : ¬ Contains {X = ℕ} [] 47
 none_in_none (k, below, is) = absurd (omega arith)

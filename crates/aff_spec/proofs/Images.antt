@@ -8,7 +8,8 @@ use Rattle.aff_spec.specs.Names.{stream_urn, zero_iri, unreadable_iri}
 use Rattle.aff_spec.specs.Runs.{covers, lookup, spot_in}
 use Rattle.aff_spec.specs.Streams.{stream_byte}
 use Rattle.aff_spec.specs.Symbols.{unknown_byte, unreadable_byte}
-use Rattle.aff_spec.specs.Volumes.{volume_of, lines_of, targets_text, target_byte, spot_byte, volume_byte}
+use Rattle.aff_spec.specs.Lines.{lines_of}
+use Rattle.aff_spec.specs.Volumes.{volume_of, targets_text, target_byte, spot_byte, volume_byte}
 use Rattle.aff_spec.specs.Walks.{IsStored}
 use Rattle.aff_spec.specs.Words.{is_uuid}
 use Rattle.aff_spec.proofs.Targets.{first_target, second_target, third_target, stream_byte_of}

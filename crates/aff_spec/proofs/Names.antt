@@ -5,7 +5,7 @@ use Rattle.std.specs.List.{flat_map}
 use Rattle.std.specs.Str.{bytes_eq}
 use Rattle.std.proofs.lemmas.Bool.{and_parts}
 use Rattle.aff_model.proofs.HeldLaws.{bytes_eq_same}
-use Rattle.aff_spec.specs.Names.{escaped, is_plain, hex_digit, image_urn, map_name, idx_name}
+use Rattle.aff_spec.specs.Names.{percent_encoded, is_plain, hex_digit, image_urn, map_name, idx_name}
 use Rattle.aff_spec.specs.Words.{is_uuid, uuid_from, fits_uuid, is_dash_place, is_hex}
 
 dash_is_plain : (b : ℕ) → (b == 45) ≡ true → is_plain b ≡ true
@@ -22,12 +22,12 @@ uuid_byte_is_plain k b fits =
     ] fits
 
 -- a uuid stands in a folder's name as it is
-escaped_uuid : (k : ℕ) (bytes tail : List ℕ) → uuid_from k bytes ≡ true → flat_map escaped (bytes ++ tail) ≡ bytes ++ flat_map escaped tail
+escaped_uuid : (k : ℕ) (bytes tail : List ℕ) → uuid_from k bytes ≡ true → flat_map percent_encoded (bytes ++ tail) ≡ bytes ++ flat_map percent_encoded tail
 escaped_uuid k [] tail h = refl
 escaped_uuid k (b ∷ bytes) tail h =
     let parts = and_parts (fits_uuid k b) (uuid_from (k + 1) bytes) h in
     let plain : is_plain b ≡ true = uuid_byte_is_plain k b parts.0 in
-    ap (λ t. cond t (b ∷ []) (37 ∷ hex_digit (b / 16) ∷ hex_digit (b % 16) ∷ []) ++ flat_map escaped (bytes ++ tail)) plain
+    ap (λ t. cond t (b ∷ []) (37 ∷ hex_digit (b / 16) ∷ hex_digit (b % 16) ∷ []) ++ flat_map percent_encoded (bytes ++ tail)) plain
     ∙ ap (λ v. b ∷ v) (escaped_uuid (k + 1) bytes tail parts.1)
 
 -- what stands before the uuid in each name

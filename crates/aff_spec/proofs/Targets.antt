@@ -15,7 +15,8 @@ use Rattle.aff_spec.specs.Names.{stream_urn, zero_iri, unknown_iri, unreadable_i
 use Rattle.aff_spec.specs.Words.{is_uuid, uuid_from, fits_uuid, is_dash_place, is_hex}
 use Rattle.aff_spec.specs.Streams.{stream_byte}
 use Rattle.aff_spec.specs.Symbols.{unknown_byte, unreadable_byte}
-use Rattle.aff_spec.specs.Volumes.{volume_of, lines_of, targets_text, target_cell, target_byte}
+use Rattle.aff_spec.specs.Lines.{lines_of}
+use Rattle.aff_spec.specs.Volumes.{volume_of, targets_text, target_cell, target_byte}
 
 -- a uuid has no line feed
 no_feed : (k b : ℕ) → fits_uuid k b ≡ true → (b == 10) ≡ false

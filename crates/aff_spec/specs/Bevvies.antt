@@ -1,15 +1,16 @@
 -- Bevvies: how the chunks of a stream stand in segments (AFF4 Standard v1.0, image streams and block hashes).
-use Rattle.std.specs.Prelude.{ℕ, ◌+◌, ◌*◌, ◌/◌, ◌%◌, ◌==◌, List, [], ◌∷◌, ◌++◌, length, take, drop, map, if◌then◌else◌}
+use Rattle.std.specs.Prelude.{◌-◌, ℕ, ◌+◌, ◌*◌, ◌/◌, ◌%◌, ◌==◌, List, [], ◌∷◌, ◌++◌, length, take, drop, map, if◌then◌else◌}
 use Rattle.std.specs.List.{range_with_len, flat_map}
 use Rattle.md5.specs.Md5.{md5}
 use Rattle.sha1.specs.Sha1.{sha1}
 use Rattle.sha2.specs.Sha256.{sha256}
+use Rattle.aff_model.specs.declared.limits.TheConstants.{BEVVY}
 use Rattle.aff_fields.specs.Point.{point_bytes}
 use Rattle.aff_spec.specs.Appends.{Append, appends_to}
 use Rattle.aff_spec.specs.Names.{bevvy_name, index_name, md5_name, sha1_name, sha256_name}
 use Rattle.aff_spec.specs.Streams.{full_points}
 
--- the three digests of a chunk: MD5 as RFC 1321 has it, SHA-1 and SHA-256 as FIPS 180-4 has them
+-- the three digests of a chunk: MD5 (RFC 1321), SHA-1 and SHA-256 (FIPS 180-4), as the toolchain defines them
 pub record Sums : Type 0 where
   pub md5 : List ℕ
   pub sha1 : List ℕ
@@ -20,11 +21,11 @@ sums_of chunk = record { md5 = md5 chunk; sha1 = sha1 chunk; sha256 = sha256 chu
 
 -- how many bevvies so many chunks take
 abbrev pub bevvy_count : ℕ → ℕ
-bevvy_count n = (n + 1023) / 1024
+bevvy_count n = (n + (BEVVY - 1)) / BEVVY
 
 -- the chunks of bevvy b: 1,024 of them, or what is left
 abbrev pub bevvy_of : List (List ℕ) → ℕ → List (List ℕ)
-bevvy_of chunks b = take 1024 (drop (1024 * b) chunks)
+bevvy_of chunks b = take BEVVY (drop (BEVVY * b) chunks)
 
 -- the index of a bevvy of n chunks
 abbrev pub index_append : List ℕ → ℕ → ℕ → Append
@@ -50,19 +51,19 @@ bevvies_appends stream chunks = flat_map (bevvy_appends stream chunks) (range_wi
 -- the appends of a stream that is still written: its full bevvies, and the chunks behind them
 abbrev pub written : List ℕ → List (List ℕ) → List Append
 written stream chunks =
-    flat_map (bevvy_appends stream chunks) (range_with_len 0 (length chunks / 1024))
-    ++ appends_to (bevvy_name stream (length chunks / 1024)) (drop (1024 * (length chunks / 1024)) chunks)
+    flat_map (bevvy_appends stream chunks) (range_with_len 0 (length chunks / BEVVY))
+    ++ appends_to (bevvy_name stream (length chunks / BEVVY)) (drop (BEVVY * (length chunks / BEVVY)) chunks)
 
 -- the appends that end it: what is appended behind a bevvy that is not full, where it has a chunk
 abbrev pub ending : List ℕ → List (List ℕ) → List Append
 ending stream chunks =
-    if length chunks % 1024 == 0 then [] else closing_appends stream (length chunks / 1024) (drop (1024 * (length chunks / 1024)) chunks)
+    if length chunks % BEVVY == 0 then [] else closing_appends stream (length chunks / BEVVY) (drop (BEVVY * (length chunks / BEVVY)) chunks)
 
 -- the appends of one chunk more: the chunk, and behind the last one of a bevvy its index and its block hashes
 abbrev pub chunk_appends : List ℕ → List (List ℕ) → List ℕ → List Append
 chunk_appends stream chunks chunk =
-    (bevvy_name stream (length chunks / 1024), chunk)
-    ∷ (if (length chunks + 1) % 1024 == 0 then closing_appends stream (length chunks / 1024) (drop (1024 * (length chunks / 1024)) chunks ++ chunk ∷ []) else [])
+    (bevvy_name stream (length chunks / BEVVY), chunk)
+    ∷ (if (length chunks + 1) % BEVVY == 0 then closing_appends stream (length chunks / BEVVY) (drop (BEVVY * (length chunks / BEVVY)) chunks ++ chunk ∷ []) else [])
 
 -- the appends of some chunks behind others
 abbrev pub more_appends : List ℕ → List (List ℕ) → List (List ℕ) → List Append
@@ -71,7 +72,7 @@ more_appends stream before (chunk ∷ chunks) = chunk_appends stream before chun
 
 -- the digests of the chunks behind the last full bevvy
 abbrev pub pending_sums : List (List ℕ) → List Sums
-pending_sums chunks = map sums_of (drop (1024 * (length chunks / 1024)) chunks)
+pending_sums chunks = map sums_of (drop (BEVVY * (length chunks / BEVVY)) chunks)
 
 -- the names of the segments of a bevvy
 abbrev pub bevvy_segments : List ℕ → ℕ → List (List ℕ)

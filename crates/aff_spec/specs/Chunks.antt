@@ -1,6 +1,7 @@
 -- Chunks: how the bytes of an extent are cut for the stream, and which of them are stored.
 use Rattle.std.specs.Prelude.{◌≡◌, ℕ, suc, ◌+◌, ◌-◌, ◌*◌, ◌<◌, ◌≤◌, List, [], ◌∷◌, ◌++◌, length, take, drop, map, replicate, Option, None, Some, slice_get, slice_index, if◌then◌else◌}
 use Rattle.std.specs.List.{range_with_len, flat_map}
+use Rattle.aff_model.specs.declared.limits.TheConstants.{CHUNK}
 use Rattle.aff_model.specs.declared.extent.Extent.{Extent}
 use Rattle.aff_model.specs.declared.publication.Place.{Place}
 use Rattle.aff_model.specs.declared.publication.Place.TheVariants.{Zero, Chunk, Nothing}
@@ -10,15 +11,15 @@ use Rattle.aff_model.specs.History.{Published}
 
 -- zeros behind some bytes, up to the length of a chunk
 unfoldable pub padded : List ℕ → List ℕ
-padded bytes = bytes ++ replicate (32768 - length bytes) 0
+padded bytes = bytes ++ replicate (CHUNK - length bytes) 0
 
 -- chunk j of some bytes, padded where it is the last and short
 abbrev pub chunk_at : List ℕ → ℕ → List ℕ
-chunk_at bytes j = padded (take 32768 (drop (32768 * j) bytes))
+chunk_at bytes j = padded (take CHUNK (drop (CHUNK * j) bytes))
 
 -- all bytes of chunk j are 0
 abbrev pub IsZeroPart : List ℕ → ℕ → Type 0
-IsZeroPart bytes j = (k : ℕ) → 32768 * j ≤ k → k < 32768 * j + 32768 → k < length bytes → slice_index bytes k ≡ 0
+IsZeroPart bytes j = (k : ℕ) → CHUNK * j ≤ k → k < CHUNK * j + CHUNK → k < length bytes → slice_index bytes k ≡ 0
 
 -- the chunks of some bytes that are stored, by the places of all chunks from chunk j on
 abbrev pub chunks_from : List ℕ → ℕ → List Place → List (List ℕ)

@@ -4,6 +4,7 @@ pub mod Bevvies
 pub mod BlockHashes
 pub mod Chunks
 pub mod Digests
+pub mod Lines
 pub mod NameLaws
 pub mod Names
 pub mod PlanText

@@ -1,10 +1,8 @@
 -- The text of a plan: one line an extent, each with a line feed.
-use Rattle.std.specs.Prelude.{◌≡◌, ℕ, ◌<◌, ◌≤◌, ◌^◌, List, ◌++◌, length, codes}
+use Rattle.std.specs.Prelude.{ℕ, ◌<◌, ◌^◌, List, ◌++◌, codes}
 use Rattle.std.specs.Fmt.{decimal}
 use Rattle.std.specs.List.{flat_map}
-use Rattle.aff_model.specs.declared.limits.TheConstants.{MAX_TEXT}
 use Rattle.aff_model.specs.declared.extent.Extent.{Extent}
-use Rattle.aff_model.specs.Plan.{IsPlan}
 
 -- the numbers are those of the type
 pub record FitsExtent (e : Extent) : Type 0 where
@@ -18,13 +16,3 @@ extent_line e = codes "extent " ++ (decimal e.at ++ (codes " " ++ (decimal e.len
 
 abbrev pub plan_text : List Extent → List ℕ
 plan_text extents = flat_map extent_line extents
-
--- a text that may be acquired by: that of a valid plan, and itself at most 16,777,216 bytes long
-pub record IsPlanText (size block : ℕ) (extents : List Extent) (text : List ℕ) : Type 0 where
-  pub is_plan : IsPlan size block extents
-  pub is_text : text ≡ plan_text extents
-  pub short : length text ≤ MAX_TEXT
-
--- a text that no valid plan has
-abbrev pub IsRefusedText : ℕ → ℕ → List ℕ → Type 0
-IsRefusedText size block text = (extents : List Extent) → ¬ (IsPlanText size block extents text)

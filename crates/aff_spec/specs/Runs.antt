@@ -1,6 +1,7 @@
 -- Maps: which place of which target each byte of an image has.
 use Rattle.std.specs.Prelude.{◌≡◌, ℕ, ◌+◌, ◌-◌, ◌*◌, ◌/◌, ◌%◌, ◌<◌, ◌≤◌, Bool, ◌&&◌, nat_le, nat_lt, List, [], ◌∷◌, length, All, Option, None, Some, find, slice_get, slice_index_or, if◌then◌else◌}
 use Rattle.std.specs.Option.{option_map}
+use Rattle.aff_model.specs.declared.limits.TheConstants.{CHUNK}
 use Rattle.aff_model.specs.declared.extent.Extent.{Extent}
 use Rattle.aff_model.specs.declared.publication.Place.{Place}
 use Rattle.aff_model.specs.declared.publication.Place.TheVariants.{Zero, Chunk, Nothing}
@@ -29,12 +30,12 @@ lookup entries i = option_map (spot_in i) (find (covers i) entries)
 abbrev pub place_spot : Option Place → Extent → ℕ → Option Spot
 place_spot None e i = None
 place_spot (Some Zero) e i = Some (1, i)
-place_spot (Some (Chunk c)) e i = Some (0, 32768 * c + (i - e.at) % 32768)
+place_spot (Some (Chunk c)) e i = Some (0, CHUNK * c + (i - e.at) % CHUNK)
 place_spot (Some Nothing) e i = Some (2, i)
 
 -- the spot of a byte of a published extent
 abbrev pub published_spot : Extent → Published → ℕ → Option Spot
-published_spot e p i = if is_bad_at e p i then Some (2, i) else place_spot (slice_get p.places ((i - e.at) / 32768)) e i
+published_spot e p i = if is_bad_at e p i then Some (2, i) else place_spot (slice_get p.places ((i - e.at) / CHUNK)) e i
 
 -- the spot by a publication whose extent holds the place, else by the others
 abbrev pub spot_by : Option Extent → Published → ℕ → Option Spot → Option Spot

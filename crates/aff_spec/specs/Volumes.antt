@@ -2,11 +2,12 @@
 use Rattle.std.specs.Prelude.{ℕ, ◌==◌, List, ◌++◌, Option, None, Some, slice_get, codes, unwrap_or, map, if◌then◌else◌}
 use Rattle.std.specs.Option.{option_map, option_and_then}
 use Rattle.std.specs.Str.{bytes_eq}
-use Rattle.std.specs.List.{slice_split, range_with_len}
+use Rattle.std.specs.List.{range_with_len}
 use Rattle.aff_model.specs.declared.cell.Cell.{Cell}
 use Rattle.aff_model.specs.declared.cell.Cell.TheVariants.{Byte, Unreadable, Unknown}
 use Rattle.aff_model.specs.Held.{Held, bytes_of}
 use Rattle.aff_fields.specs.Entry.{entries_of}
+use Rattle.aff_spec.specs.Lines.{lines_of}
 use Rattle.aff_spec.specs.Names.{map_name, idx_name, stream_urn, image_urn, zero_iri, unknown_iri, unreadable_iri}
 use Rattle.aff_spec.specs.Runs.{Spot, lookup}
 use Rattle.aff_spec.specs.Streams.{stream_byte}
@@ -22,10 +23,6 @@ pub record Volume : Type 0 where
 -- the volume that a uuid names
 abbrev pub volume_of : List ℕ → Volume
 volume_of uuid = record { stream = stream_urn uuid; image = image_urn uuid; gap = unknown_iri }
-
--- the lines of a list of targets
-abbrev pub lines_of : List ℕ → List (List ℕ)
-lines_of text = slice_split (λ b. b == 10) text
 
 -- the list of targets that is written: the stream, Zero and UnreadableData, each with a line feed
 unfoldable pub targets_text : List ℕ → List ℕ

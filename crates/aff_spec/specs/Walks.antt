@@ -2,6 +2,7 @@
 use Rattle.std.specs.Prelude.{◌≡◌, ℕ, ◌+◌, ◌*◌, ◌<◌, ◌≤◌, Bool, List, length, map, unwrap_or, All, IsSomeAnd, IsTrue, slice_index_or}
 use Rattle.std.specs.List.{flat_map, range_with_len}
 use Rattle.std.specs.FinMap.{get}
+use Rattle.aff_model.specs.declared.limits.TheConstants.{CHUNK}
 use Rattle.aff_model.specs.Held.{Held, bytes_of}
 use Rattle.aff_fields.specs.declared.entry.Entry.{Entry}
 use Rattle.aff_fields.specs.Entry.{entries_of}
@@ -18,7 +19,7 @@ pub record IsImageRun (size n : ℕ) (e : Entry) : Type 0 where
   pub some : 0 < e.len
   pub inside : e.at + e.len ≤ size
   pub known : e.target ≤ 2
-  pub stored : e.target ≡ 0 → e.target_at + e.len ≤ 32768 * n
+  pub stored : e.target ≡ 0 → e.target_at + e.len ≤ CHUNK * n
   pub symbolic : 0 < e.target → e.target_at ≡ e.at
 
 -- the entries are such runs, sorted by their places in the image, and no two share a byte
@@ -29,7 +30,7 @@ pub record AreImageRuns (size n : ℕ) (entries : List Entry) : Type 0 where
 -- a stream of n chunks stands in a folder: each of its bevvies is there, as long as its chunks are, and they stand in it one
 -- after another
 pub record IsStreamIn (held : Held) (stream : List ℕ) (n : ℕ) : Type 0 where
-  pub bevvy : (b : ℕ) → b < bevvy_count n → IsSomeAnd (get held (bevvy_name stream b)) (λ bytes. length bytes ≡ 32768 * chunks_in n b)
+  pub bevvy : (b : ℕ) → b < bevvy_count n → IsSomeAnd (get held (bevvy_name stream b)) (λ bytes. length bytes ≡ CHUNK * chunks_in n b)
   pub index : (b : ℕ) → b < bevvy_count n → bytes_of held (index_name stream b) ≡ flat_map point_bytes (full_points (chunks_in n b))
 
 -- a folder has the stream of n chunks of a volume, its map with these entries, and its targets

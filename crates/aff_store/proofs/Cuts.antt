@@ -4,7 +4,7 @@ use Rattle.std.specs.List.{range_with_len}
 use Rattle.std.proofs.Math.Seq.{drop-append_seam}
 use Rattle.std.proofs.lemmas.List.{drop-append-le, take-append-le, take_all}
 use Rattle.std.proofs.lemmas.List.FromFn.{map-range_with_len_more}
-use Rattle.aff_store.specs.Written.{chunks_of}
+use Rattle.aff_store.specs.Written.{cut_chunks}
 
 chunk_in : List ℕ → ℕ → List ℕ
 chunk_in bytes k = take 32768 (drop (32768 * k) bytes)
@@ -24,9 +24,9 @@ chunk_before bytes more k inside =
     ap (take 32768) (drop-append-le (32768 * k) bytes more (omega (arith, inside))) ∙ take-append-le 32768 (drop (32768 * k) bytes) more room
 
 -- a whole chunk more
-pub chunks_of-push : (bytes chunk : List ℕ) → length bytes % 32768 ≡ 0 → length chunk ≡ 32768 → chunks_of (bytes ++ chunk) ≡ chunks_of bytes ++ chunk ∷ []
+pub cut_chunks-push : (bytes chunk : List ℕ) → length bytes % 32768 ≡ 0 → length chunk ≡ 32768 → cut_chunks (bytes ++ chunk) ≡ cut_chunks bytes ++ chunk ∷ []
 unfolding chunk_in
-chunks_of-push bytes chunk whole one =
+cut_chunks-push bytes chunk whole one =
     let n : ℕ = length bytes / 32768 in
     let all : length bytes ≡ 32768 * n = omega (arith, whole) in
     let count : length (bytes ++ chunk) / 32768 ≡ n + 1 = omega (arith, length-append bytes chunk, whole, one) in

@@ -9,23 +9,23 @@ use Rattle.aff_model.specs.Legal.{numbers_of}
 use Rattle.aff_chunk.specs.declared.kind.Cut.{Cut}
 use Rattle.aff_spec.proofs.Chunks.{numbers_of-append}
 use Rattle.aff_image.proofs.Growth.{row_join}
-use Rattle.aff_store.specs.Pieces.{IsKept, ArePlaces}
+use Rattle.aff_store.specs.Pieces.{IsPlaceOf, ArePlaces}
 
 -- the numbers of one place more
 pub length-numbers_more : (places : List Place) (p : Place) → length (numbers_of (places ++ p ∷ [])) ≡ length (numbers_of places) + length (numbers_of (p ∷ []))
 length-numbers_more places p = ap length (numbers_of-append places (p ∷ [])) ∙ length-append (numbers_of places) (numbers_of (p ∷ []))
 
-module _ (first : ℕ) (cuts : List Cut) (places : List Place) (are : ArePlaces first cuts places) (c : Cut) (p : Place) (one : IsKept c p) where
-  kept_more : (j : ℕ) (d : Cut) (q : Place) → j < length (cuts ++ c ∷ []) → (b : Bool) → nat_lt j (length cuts) ≡ b → IsKept (get_or (cuts ++ c ∷ []) j d) (get_or (places ++ p ∷ []) j q)
+module _ (first : ℕ) (cuts : List Cut) (places : List Place) (are : ArePlaces first cuts places) (c : Cut) (p : Place) (one : IsPlaceOf c p) where
+  kept_more : (j : ℕ) (d : Cut) (q : Place) → j < length (cuts ++ c ∷ []) → (b : Bool) → nat_lt j (length cuts) ≡ b → IsPlaceOf (get_or (cuts ++ c ∷ []) j d) (get_or (places ++ p ∷ []) j q)
   kept_more j d q below true e =
       let low : j < length cuts = grind (arith, e) in
-      subst (λ x. IsKept x (get_or (places ++ p ∷ []) j q)) (sym (get_or-append cuts (c ∷ []) d j low))
-      (subst (IsKept (get_or cuts j d)) (sym (get_or-append places (p ∷ []) q j (omega (arith, low, are.count)))) (are.kept j d q low))
+      subst (λ x. IsPlaceOf x (get_or (places ++ p ∷ []) j q)) (sym (get_or-append cuts (c ∷ []) d j low))
+      (subst (IsPlaceOf (get_or cuts j d)) (sym (get_or-append places (p ∷ []) q j (omega (arith, low, are.count)))) (are.kept j d q low))
   kept_more j d q below false e =
       let at : j ≡ length cuts = grind (arith, e, below, length-append cuts (c ∷ [])) in
       let there : j ≡ length places = omega (arith, at, are.count) in
-      subst (λ x. IsKept x (get_or (places ++ p ∷ []) j q)) (sym (ap (λ n. get_or (cuts ++ c ∷ []) n d) at ∙ get_or-append_seam cuts c [] d))
-      (subst (IsKept c) (sym (ap (λ n. get_or (places ++ p ∷ []) n q) there ∙ get_or-append_seam places p [] q)) one)
+      subst (λ x. IsPlaceOf x (get_or (places ++ p ∷ []) j q)) (sym (ap (λ n. get_or (cuts ++ c ∷ []) n d) at ∙ get_or-append_seam cuts c [] d))
+      (subst (IsPlaceOf c) (sym (ap (λ n. get_or (places ++ p ∷ []) n q) there ∙ get_or-append_seam places p [] q)) one)
 
   -- one chunk more
   ArePlaces-more : numbers_of (p ∷ []) ≡ range_with_len (first + length (numbers_of places)) (length (numbers_of (p ∷ []))) → ArePlaces first (cuts ++ c ∷ []) (places ++ p ∷ [])
@@ -39,7 +39,7 @@ module _ (first : ℕ) (cuts : List Cut) (places : List Place) (are : ArePlaces 
   }
 
 -- the next chunk of a list
-pub ArePlaces-next : (first : ℕ) (cuts : List Cut) (k : ℕ) (d : Cut) (places : List Place) (p : Place) → k < length cuts → ArePlaces first (take k cuts) places → IsKept (get_or cuts k d) p
+pub ArePlaces-next : (first : ℕ) (cuts : List Cut) (k : ℕ) (d : Cut) (places : List Place) (p : Place) → k < length cuts → ArePlaces first (take k cuts) places → IsPlaceOf (get_or cuts k d) p
     → numbers_of (p ∷ []) ≡ range_with_len (first + length (numbers_of places)) (length (numbers_of (p ∷ []))) → ArePlaces first (take (k + 1) cuts) (places ++ p ∷ [])
 ArePlaces-next first cuts k d places p below are kept numbered =
     subst (λ v. ArePlaces first v (places ++ p ∷ [])) (sym (take_more cuts k d below)) (ArePlaces-more first (take k cuts) places are (get_or cuts k d) p kept numbered)

@@ -12,21 +12,21 @@ use Rattle.aff_chunk.specs.declared.kind.Cut.TheVariants.{Zero as CutZero, Store
 use Rattle.aff_extent.specs.Drafts.{Drafted}
 
 -- a chunk that is cut so has such a place
-abbrev pub IsKept : Cut → Place → Type 0
-IsKept CutZero Zero = Unit {0}
-IsKept CutZero (Chunk c) = ⊥
-IsKept CutZero Nothing = ⊥
-IsKept CutStored Zero = ⊥
-IsKept CutStored (Chunk c) = Unit {0}
-IsKept CutStored Nothing = ⊥
-IsKept CutNothing Zero = ⊥
-IsKept CutNothing (Chunk c) = ⊥
-IsKept CutNothing Nothing = Unit {0}
+abbrev pub IsPlaceOf : Cut → Place → Type 0
+IsPlaceOf CutZero Zero = Unit {0}
+IsPlaceOf CutZero (Chunk c) = ⊥
+IsPlaceOf CutZero Nothing = ⊥
+IsPlaceOf CutStored Zero = ⊥
+IsPlaceOf CutStored (Chunk c) = Unit {0}
+IsPlaceOf CutStored Nothing = ⊥
+IsPlaceOf CutNothing Zero = ⊥
+IsPlaceOf CutNothing (Chunk c) = ⊥
+IsPlaceOf CutNothing Nothing = Unit {0}
 
 -- each chunk has its place, and the stored ones are numbered one after another from a first number on
 pub record ArePlaces (first : ℕ) (cuts : List Cut) (places : List Place) : Type 0 where
   pub count : length places ≡ length cuts
-  pub kept : (j : ℕ) (c : Cut) (p : Place) → j < length cuts → IsKept (slice_index_or cuts j c) (slice_index_or places j p)
+  pub kept : (j : ℕ) (c : Cut) (p : Place) → j < length cuts → IsPlaceOf (slice_index_or cuts j c) (slice_index_or places j p)
   pub numbered : numbers_of places ≡ range_with_len first (length (numbers_of places))
 
 -- the chunks of an extent's bytes that are to be stored, padded

@@ -11,8 +11,8 @@ pub record Written : Type 0 where
   pub ended : Bool
 
 -- bytes cut into chunks
-abbrev pub chunks_of : List ℕ → List (List ℕ)
-chunks_of bytes = map (λ k. take CHUNK (drop (CHUNK * k) bytes)) (range_with_len 0 (length bytes / CHUNK))
+abbrev pub cut_chunks : List ℕ → List (List ℕ)
+cut_chunks bytes = map (λ k. take CHUNK (drop (CHUNK * k) bytes)) (range_with_len 0 (length bytes / CHUNK))
 
 -- a writer of a stream and its block hashes: the stream's URN, how many chunks the writer has; the URN for which digests are
 -- kept, how many bevvies are closed, and the digests of the chunks behind them
@@ -34,4 +34,4 @@ pub record HasWritten (stream : List ℕ) (chunks : List (List ℕ)) (p : Progre
 -- whole chunks were written, and until the stream has ended the writer and the block hashes have them
 pub record AreInStep (p : Progress) (bytes : List ℕ) (ended : Bool) : Type 0 where
   pub whole : length bytes % CHUNK ≡ 0
-  pub written : ended ≡ false → HasWritten p.stream (chunks_of bytes) p
+  pub written : ended ≡ false → HasWritten p.stream (cut_chunks bytes) p

@@ -2,7 +2,7 @@
 ghost use Rattle.std.specs.Prelude.{◌≡◌, ◌+◌, ◌<◌, ◌^◌, ◌∷◌, [], length, IfOk};
 ghost use Rattle.std.specs.List.{range_with_len};
 ghost use Rattle.aff_model.specs.Legal.{numbers_of};
-ghost use Rattle.aff_store.specs.Pieces.{IsKept, ArePlaces};
+ghost use Rattle.aff_store.specs.Pieces.{IsPlaceOf, ArePlaces};
 
 use aff_chunk::Cut;
 use aff_model::Place;
@@ -11,7 +11,7 @@ use std::alloc::{AllocError, Global};
 /// The place of a chunk, where the next stored one has this number, and the number that comes then.
 fn place_of(cut: Cut, next: u64) -> (Place, u64)
     requires { next < 2 ^ 48 }
-    ensures kept { IsKept cut result.0 }
+    ensures kept { IsPlaceOf cut result.0 }
     ensures numbered { numbers_of (result.0 ∷ []) ≡ range_with_len next (length (numbers_of (result.0 ∷ []))) }
     ensures next { result.1 ≡ next + length (numbers_of (result.0 ∷ [])) }
 {

@@ -31,11 +31,11 @@ pub struct Stream {
 }
 
 impl Model for Stream {
-    ghost use Rattle.aff_store.specs.Written.{Written, AreInStep, chunks_of};
+    ghost use Rattle.aff_store.specs.Written.{Written, AreInStep, cut_chunks};
 
     ghost Value = { Written };
 
-    ghost view = { λ s. record { urn = s.writer.stream; chunks = chunks_of s.written.numbers; ended = s.ended } };
+    ghost view = { λ s. record { urn = s.writer.stream; chunks = cut_chunks s.written.numbers; ended = s.ended } };
 
     ghost invariant = { λ s. AreInStep
         (record { stream = s.writer.stream; count = s.writer.count; hashes = s.hashes.stream; bevvy = s.hashes.bevvy; sums = s.hashes.sums })

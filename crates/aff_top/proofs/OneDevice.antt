@@ -5,7 +5,7 @@ use Rattle.aff_model.specs.Content.{IsBlock}
 use Rattle.aff_spec.specs.Words.{IsDeviceSize}
 use Rattle.aff_model.specs.Plan.{Planned, IsPlan}
 use Rattle.aff_top.specs.Texts.{IsRunText}
-use Rattle.aff_top.specs.Outcomes.{Shown, IsFit, IsPlanned, device_line, devices_line, first_faults, refusal_line}
+use Rattle.aff_top.specs.Outcomes.{ShownDevice, IsFit, IsPlanned, device_line, devices_line, first_faults, refusal_line}
 use Rattle.aff_top.specs.declared.fault.Refusal.{Refusal}
 
 pub some_weaker : {T : Type 0} (P Q : T → Type 0) (o : Option T) → ((x : T) → P x → Q x) → IfSome o P → IfSome o Q
@@ -17,7 +17,7 @@ none_weaker None step h = step h
 none_weaker (Some x) step h = tt
 
 -- the one device of a list, with its block and its size
-module _ {D : Type 0} (f : D → Shown) (block size : ℕ) where
+module _ {D : Type 0} (f : D → ShownDevice) (block size : ℕ) where
   pub fit_from : (xs : List D) → length xs ≡ 1 → ((d : D) → block ≡ (f (slice_index_or xs 0 d)).block) → ((d : D) → size ≡ (f (slice_index_or xs 0 d)).size) → IsBlock block × IsDeviceSize block size
       → IsFit (map f xs)
   fit_from [] one is_block is_size fit = absurd (omega (arith, one))
@@ -39,17 +39,17 @@ module _ {D : Type 0} (f : D → Shown) (block size : ℕ) where
   fit_says (x ∷ y ∷ xs) one is_block is_size fit = absurd (omega (arith, one))
 
   pub line_says : (xs : List D) → length xs ≡ 1 → ((d : D) → block ≡ (f (slice_index_or xs 0 d)).block) → ((d : D) → size ≡ (f (slice_index_or xs 0 d)).size) → (r : Refusal)
-      → ((d : Shown) → d.block ≡ block → d.size ≡ size → refusal_line r ≡ device_line d) → refusal_line r ≡ devices_line (map f xs)
+      → ((d : ShownDevice) → d.block ≡ block → d.size ≡ size → refusal_line r ≡ device_line d) → refusal_line r ≡ devices_line (map f xs)
   line_says [] one is_block is_size r line = absurd (omega (arith, one))
   line_says (x ∷ []) one is_block is_size r line = line (f x) (sym (is_block x)) (sym (is_size x))
   line_says (x ∷ y ∷ xs) one is_block is_size r line = absurd (omega (arith, one))
 
 -- the count of the first device's faults
-pub faults_first : {D : Type 0} (f : D → Shown) (xs : List D) (d : D) → length xs ≡ 1 → first_faults (map f xs) ≡ (f (slice_index_or xs 0 d)).faults
+pub faults_first : {D : Type 0} (f : D → ShownDevice) (xs : List D) (d : D) → length xs ≡ 1 → first_faults (map f xs) ≡ (f (slice_index_or xs 0 d)).faults
 faults_first f [] d one = absurd (omega (arith, one))
 faults_first f (x ∷ xs) d one = refl
 
-module _ {D : Type 0} (f : D → Shown) where
+module _ {D : Type 0} (f : D → ShownDevice) where
   -- the first device is the one that fits
   pub block_is : (xs : List D) (fit : IsFit (map f xs)) (n : ℕ) → ((d : D) → n ≡ (f (slice_index_or xs 0 d)).block) → n ≡ fit.device.block
   block_is [] fit n is = absurd (omega (arith, ap length fit.only))
@@ -67,7 +67,7 @@ module _ {D : Type 0} (f : D → Shown) where
   of_firsts P (x ∷ olds) (y ∷ news) one same h = h x y
 
 -- a plan of a text for the one device
-pub planned_for : (devices : List Shown) (fit : IsFit devices) (left : Option (List ℕ)) (plan : Planned) (size block : ℕ) → size ≡ fit.device.size → block ≡ fit.device.block
+pub planned_for : (devices : List ShownDevice) (fit : IsFit devices) (left : Option (List ℕ)) (plan : Planned) (size block : ℕ) → size ≡ fit.device.size → block ≡ fit.device.block
     → plan.size ≡ size → plan.block ≡ block → IsPlan size block plan.extents → IfSome left (IsRunText size block plan.extents) → IsPlanned devices left plan
 planned_for devices fit left plan size block size_is block_is is_size is_block is_plan is_text = record {
   fit = fit;

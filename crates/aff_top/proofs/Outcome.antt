@@ -4,7 +4,7 @@ use Rattle.std.specs.Prelude.{Result, Ok, Err, String}
 use Rattle.std.specs.String.{string_bytes}
 use Rattle.std.specs.Io.KnownBytes.{Appends}
 use Rattle.aff_model.specs.Causes.{Rose}
-use Rattle.aff_top.specs.Outcomes.{Request, Facts, Output, Leaves, memory, Writes, IsBegun, IsCut, IsAnswer, IsLater, IsOccupied, IsPart, IsTaken, IsTold, IsOutcome, IsUntouched, status_at, code_of, line_of, text_of}
+use Rattle.aff_top.specs.Outcomes.{Request, Facts, Output, Leaves, memory, Writes, IsBegun, IsWrittenInPart, IsResult, HaveNotFallen, IsOccupied, IsPartlyDone, IsAccepted, IsTold, IsOutcome, IsUntouched, status_at, code_of, line_of, text_of}
 use Rattle.aff_top.specs.Texts.{IsRefusedFrom}
 use Rattle.aff_top.specs.declared.fault.Fault.{Fault}
 use Rattle.aff_top.specs.declared.fault.Fault.TheVariants.{Usage, Devices, Occupied, Source, Text, Folder, Memory}
@@ -19,7 +19,7 @@ or_memory (Text fault) ask old new line left = inl left.2.held
 or_memory Folder ask old new line left = elim left.2 [ inl still ↦ inl still.0.held | inr part ↦ inr (inl part.1) ]
 or_memory Memory ask old new line left = left
 
-writes_line : (fault : Fault) (old new : Output) (t : List ℕ) → Appends old.written new.written t ⊎ IsCut old new t → Writes (status_at (code_of fault)) old new t
+writes_line : (fault : Fault) (old new : Output) (t : List ℕ) → Appends old.written new.written t ⊎ IsWrittenInPart old new t → Writes (status_at (code_of fault)) old new t
 writes_line Memory old new t told = elim told [ inl all ↦ inl all | inr cut ↦ inr (inl cut) ]
 writes_line Usage old new t told = told
 writes_line (Devices refusal) old new t told = told
@@ -29,7 +29,7 @@ writes_line Occupied old new t told = told
 writes_line Folder old new t told = told
 
 pub outcome_of : {A F S D : Type 0} (r : Result (String A) Fault) (ask : Request) (old new : Facts F S D) (before after : Output) (status : ℕ)
-    → IsAnswer ask old new r → IsTold r before after status → IsOutcome ask old new before after status
+    → IsResult ask old new r → IsTold r before after status → IsOutcome ask old new before after status
 outcome_of (Ok report) ask old new before after status answer told = elim told [
   | inl h ↦ subst (IsOutcome ask old new before after) (sym h.0) (record { report = string_bytes report; leaves = answer.0; writes = h.1; later = answer.1 })
   | inr (inl h) ↦ subst (IsOutcome ask old new before after) (sym h.0) (record { report = string_bytes report; leaves = answer.0; writes = h.1; later = answer.1 })
@@ -52,10 +52,10 @@ rose_from a b c later rose = omega (arith, later, rose)
 -- what is to be shown of a fault
 abbrev pub IsFaultOf : {F S D : Type 0} → Fault → Request → Facts F S D → Facts F S D → Type 0
 IsFaultOf fault ask old new =
-    Leaves (status_at (code_of fault)) ask old new (line_of fault) × (line_of fault ≡ text_of (status_at (code_of fault)) old.devices (line_of fault)) × IsLater old new
+    Leaves (status_at (code_of fault)) ask old new (line_of fault) × (line_of fault ≡ text_of (status_at (code_of fault)) old.devices (line_of fault)) × HaveNotFallen old new
 
 -- the folder was not taken
-pub folder_refused : {F S D : Type 0} (ask : Request) (old new : Facts F S D) (fault : Fault) → IsTaken ask old → IsUntouched ask old new → new.source ≡ old.source → IsLater old new
+pub folder_refused : {F S D : Type 0} (ask : Request) (old new : Facts F S D) (fault : Fault) → IsAccepted ask old → IsUntouched ask old new → new.source ≡ old.source → HaveNotFallen old new
     → (fault ≡ Folder → Rose old.folder_faults new.folder_faults) → (fault ≡ Occupied → IsOccupied ask old) → (fault ≡ Occupied) ⊎ ((fault ≡ Folder) ⊎ (fault ≡ Memory))
     → IsFaultOf fault ask old new
 folder_refused ask old new fault taken still source later rose occupied which = elim which [
@@ -65,7 +65,7 @@ folder_refused ask old new fault taken still source later rose occupied which = 
 ]
 
 -- no plan was read
-pub plan_refused : {F S D : Type 0} (ask : Request) (old new : Facts F S D) (fault : Fault) (begun : IsBegun ask old) → IsUntouched ask old new → IsLater old new
+pub plan_refused : {F S D : Type 0} (ask : Request) (old new : Facts F S D) (fault : Fault) (begun : IsBegun ask old) → IsUntouched ask old new → HaveNotFallen old new
     → (fault ≡ Source → Rose old.source_faults new.source_faults)
     → (fault ≡ Source) ⊎ ((fault ≡ Memory) ⊎ IsRefusedFrom begun.taken.devices.device.size begun.taken.devices.device.block old.left fault)
     → IsFaultOf fault ask old new
@@ -77,7 +77,7 @@ plan_refused ask old new fault begun still later rose which = elim which [
 ]
 
 -- the plan was not acquired whole
-pub run_refused : {F S D : Type 0} (ask : Request) (old new : Facts F S D) (fault : Fault) → IsBegun ask old → IsPart ask old new → IsLater old new
+pub run_refused : {F S D : Type 0} (ask : Request) (old new : Facts F S D) (fault : Fault) → IsBegun ask old → IsPartlyDone ask old new → HaveNotFallen old new
     → (fault ≡ Folder → Rose old.folder_faults new.folder_faults) → (fault ≡ Folder) ⊎ (fault ≡ Memory)
     → IsFaultOf fault ask old new
 run_refused ask old new fault begun part later rose which = elim which [

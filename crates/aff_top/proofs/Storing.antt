@@ -23,7 +23,7 @@ use Rattle.aff_image.proofs.Growth.{history_of-push, kept_chunks-push, none_witn
 use Rattle.aff_image.proofs.Pieces.{is_witnessed, reading-told}
 use Rattle.aff_store.specs.Written.{Written}
 use Rattle.aff_plan.specs.Order.{IsOrderOf}
-use Rattle.aff_top.specs.Stored.{AreStored, AreStoredInPart, IsOwn, IsTaken, IsTakenInPart, blocks_lost}
+use Rattle.aff_top.specs.Stored.{AreStored, AreStoredInPart, IsOwn, IsExtentStored, IsExtentStoredInPart, blocks_lost}
 use Rattle.aff_top.proofs.Ordered.{next_new, number_below}
 
 -- nothing was stored yet
@@ -74,7 +74,7 @@ module _ (case : Option Content) (plan : Planned) (is_plan : IsPlan plan.size pl
 
   module _ (own : Option Content) (told : IfSome case (λ c. own ≡ Some c)) (new : Held) where
     -- the next extent was stored
-    pub stored_next : (v : Written) (now : ℕ) (p : Published) → IsTaken own plan.block number (get_or plan.extents number d) tells mid new w v before now p
+    pub stored_next : (v : Written) (now : ℕ) (p : Published) → IsExtentStored own plan.block number (get_or plan.extents number d) tells mid new w v before now p
         → AreStored case plan order (n + 1) tells urn old new v start now (history ++ p ∷ [])
     stored_next v now p taken =
         let e = get_or plan.extents number d in
@@ -103,7 +103,7 @@ module _ (case : Option Content) (plan : Planned) (is_plan : IsPlan plan.size pl
         }
 
     -- it was stored in part, or not at all
-    pub stored_in_part : (IsTrue tells → new ≡ mid) ⊎ IsTakenInPart own plan.block (get_or plan.extents number d) tells mid new w → AreStoredInPart case plan tells urn old new
+    pub stored_in_part : (IsTrue tells → new ≡ mid) ⊎ IsExtentStoredInPart own plan.block (get_or plan.extents number d) tells mid new w → AreStoredInPart case plan tells urn old new
     stored_in_part (inl same) = record {
       readings = first.readings;
       are = first.are;

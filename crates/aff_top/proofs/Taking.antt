@@ -19,12 +19,12 @@ use Rattle.aff_spec.specs.Bevvies.{more_appends}
 use Rattle.aff_spec.specs.Chunks.{chunk_at, chunks_from, stored_chunks}
 use Rattle.aff_image.specs.Sound.{IsPlaceIn, IsReading}
 use Rattle.aff_extent.specs.Drafts.{Drafted, IsDraft, stored_from}
-use Rattle.aff_store.specs.Pieces.{ArePlaces, IsKept, IsPieceOf, chosen_chunks}
+use Rattle.aff_store.specs.Pieces.{ArePlaces, IsPlaceOf, IsPieceOf, chosen_chunks}
 use Rattle.aff_store.specs.Written.{Written}
-use Rattle.aff_top.specs.Stored.{IsTaken, IsTakenInPart}
+use Rattle.aff_top.specs.Stored.{IsExtentStored, IsExtentStoredInPart}
 
 -- the place of a chunk that was cut so
-place_in : (e : Extent) (bytes bad : List ℕ) (j : ℕ) (c : Cut) (p : Place) → IsKept c p → IsCutOf e bytes bad j c → IsPlaceIn e bytes bad j p
+place_in : (e : Extent) (bytes bad : List ℕ) (j : ℕ) (c : Cut) (p : Place) → IsPlaceOf c p → IsCutOf e bytes bad j c → IsPlaceIn e bytes bad j p
 place_in e bytes bad j CutZero Zero kept cut = cut
 place_in e bytes bad j CutZero (Chunk n) kept cut = absurd kept
 place_in e bytes bad j CutZero Nothing kept cut = absurd kept
@@ -36,7 +36,7 @@ place_in e bytes bad j CutNothing (Chunk n) kept cut = absurd kept
 place_in e bytes bad j CutNothing Nothing kept cut = cut
 
 -- the chunk of one place
-chosen_one : (bytes : List ℕ) (j : ℕ) (c : Cut) (p : Place) (cuts : List Cut) (places : List Place) → IsKept c p
+chosen_one : (bytes : List ℕ) (j : ℕ) (c : Cut) (p : Place) (cuts : List Cut) (places : List Place) → IsPlaceOf c p
     → chunks_from bytes (suc j) places ≡ map (chunk_at bytes) (stored_from (j + 1) cuts) → chunks_from bytes j (p ∷ places) ≡ map (chunk_at bytes) (stored_from j (c ∷ cuts))
 chosen_one bytes j CutZero Zero cuts places kept rest = rest
 chosen_one bytes j CutZero (Chunk n) cuts places kept rest = absurd kept
@@ -50,7 +50,7 @@ chosen_one bytes j CutNothing Nothing cuts places kept rest = rest
 
 -- the chunks by their places are the chosen ones
 chosen_along : (bytes : List ℕ) (j : ℕ) (cuts : List Cut) (places : List Place) → length places ≡ length cuts
-    → ((k : ℕ) (c : Cut) (p : Place) → k < length cuts → IsKept (get_or cuts k c) (get_or places k p)) → chunks_from bytes j places ≡ map (chunk_at bytes) (stored_from j cuts)
+    → ((k : ℕ) (c : Cut) (p : Place) → k < length cuts → IsPlaceOf (get_or cuts k c) (get_or places k p)) → chunks_from bytes j places ≡ map (chunk_at bytes) (stored_from j cuts)
 chosen_along bytes j [] [] same kept = refl
 chosen_along bytes j [] (p ∷ places) same kept = absurd (omega (arith, same))
 chosen_along bytes j (c ∷ cuts) [] same kept = absurd (omega (arith, same))
@@ -72,7 +72,7 @@ length-places_from n (CutZero ∷ cuts) = ap suc (length-places_from n cuts)
 length-places_from n (CutStored ∷ cuts) = ap suc (length-places_from (n + 1) cuts)
 length-places_from n (CutNothing ∷ cuts) = ap suc (length-places_from n cuts)
 
-kept-places_from : (n : ℕ) (cuts : List Cut) (k : ℕ) (c : Cut) (p : Place) → k < length cuts → IsKept (get_or cuts k c) (get_or (places_from n cuts) k p)
+kept-places_from : (n : ℕ) (cuts : List Cut) (k : ℕ) (c : Cut) (p : Place) → k < length cuts → IsPlaceOf (get_or cuts k c) (get_or (places_from n cuts) k p)
 kept-places_from n [] k c p below = absurd (omega (arith, below))
 kept-places_from n (CutZero ∷ cuts) zero c p below = tt
 kept-places_from n (CutStored ∷ cuts) zero c p below = tt
@@ -114,7 +114,7 @@ module _ (case : Option Content) (block number : ℕ) (e : Extent) (bytes : List
 
   pub is_taken : {R : Type 0} (told : R → List ℕ) (p : Part R) (v : Written) (before now : ℕ) → IsDraft case block e bytes d → IsPieceOf number (length w.chunks) bytes d tells told p → v ≡ extended
       → (IsTrue tells → held ≡ applied old (more_appends w.urn w.chunks (chosen_chunks bytes d.stored))) → RoseBy (blocks_in block d.unreadable) before now
-      → IsTaken case block number e tells old held w v before now (publication_of p)
+      → IsExtentStored case block number e tells old held w v before now (publication_of p)
   is_taken told p v before now draft piece next appended counted =
       let bad : p.bad ≡ d.unreadable = ap (λ (q : Published). q.bad) piece.is in
       let chunks = chunks_are case block e bytes d draft (length w.chunks) p.places piece.placed in
@@ -129,7 +129,7 @@ module _ (case : Option Content) (block number : ℕ) (e : Extent) (bytes : List
       }
 
   -- its chunks were appended in part
-  pub is_taken_in_part : IsDraft case block e bytes d → (IsTrue tells → Reaches old (more_appends w.urn w.chunks (chosen_chunks bytes d.stored)) held) → IsTakenInPart case block e tells old held w
+  pub is_taken_in_part : IsDraft case block e bytes d → (IsTrue tells → Reaches old (more_appends w.urn w.chunks (chosen_chunks bytes d.stored)) held) → IsExtentStoredInPart case block e tells old held w
   is_taken_in_part draft reached =
       let n = length w.chunks in
       let places = places_from n d.cuts in

@@ -38,18 +38,18 @@ abbrev pub request : List (List ℕ) → Option Content → Bool → Request
 request words case tells = record { words = words; case = case; tells = tells }
 
 -- what a device shows
-pub record Shown : Type 0 where
+pub record ShownDevice : Type 0 where
   pub content : Option Content
   pub block : ℕ
   pub size : ℕ
   pub faults : ℕ
 
-abbrev pub shown : Option Content → ℕ → ℕ → ℕ → Shown
+abbrev pub shown : Option Content → ℕ → ℕ → ℕ → ShownDevice
 shown content block size faults = record { content = content; block = block; size = size; faults = faults }
 
 -- what a run is handed, and what it shows at one time: the devices as they show and as they are, the folder, the source
 pub record Facts (F S D : Type 0) : Type 0 where
-  pub devices : List Shown
+  pub devices : List ShownDevice
   pub handed : D
   pub folder : F
   pub source : S
@@ -58,7 +58,7 @@ pub record Facts (F S D : Type 0) : Type 0 where
   pub left : Option (List ℕ)
   pub source_faults : ℕ
 
-abbrev pub facts : {F R P S D : Type 0} → FolderGhosts F R P → SourceGhosts S → List Shown → D → F → S → Facts F S D
+abbrev pub facts : {F R P S D : Type 0} → FolderGhosts F R P → SourceGhosts S → List ShownDevice → D → F → S → Facts F S D
 facts f s devices handed folder source =
     record { devices = devices; handed = handed; folder = folder; source = source; held = f.held folder; folder_faults = f.folder_faults folder; left = s.left source; source_faults = s.source_faults source }
 
@@ -67,27 +67,27 @@ abbrev pub AreAcquire : List (List ℕ) → Type 0
 AreAcquire words = (block : ℕ) × IsAcquire block words
 
 -- the one device: its block is 512 or 4,096 bytes, and its size is accepted
-pub record IsFit (devices : List Shown) : Type 0 where
-  pub device : Shown
+pub record IsFit (devices : List ShownDevice) : Type 0 where
+  pub device : ShownDevice
   pub only : devices ≡ device ∷ []
   pub is_block : IsBlock device.block
   pub accepted : IsDeviceSize device.block device.size
 
 -- an acquisition is asked, from a device that is fit
-pub record IsTaken {F S D : Type 0} (ask : Request) (old : Facts F S D) : Type 0 where
+pub record IsAccepted {F S D : Type 0} (ask : Request) (old : Facts F S D) : Type 0 where
   pub words : AreAcquire ask.words
   pub devices : IsFit old.devices
 
 -- and into a folder that has no segment, where it tells
 pub record IsBegun {F S D : Type 0} (ask : Request) (old : Facts F S D) : Type 0 where
-  pub taken : IsTaken ask old
+  pub taken : IsAccepted ask old
   pub free : IsTrue ask.tells → old.held ≡ empty
 
 -- the folder has a segment, where it tells
 abbrev pub IsOccupied : {F S D : Type 0} → Request → Facts F S D → Type 0
 IsOccupied ask old = IsTrue ask.tells → ¬ (old.held ≡ empty)
 
--- no device was called, and a folder that tells holds what it held
+-- the devices are the same values, and a folder that tells holds what it held
 pub record IsUntouched {F S D : Type 0} (ask : Request) (old new : Facts F S D) : Type 0 where
   pub devices : new.devices ≡ old.devices
   pub handed : new.handed ≡ old.handed
@@ -117,12 +117,12 @@ pub record IsCutOff (case : Option Content) (tells : Bool) (uuid : List ℕ) (pl
   pub stopped : IsStopped case tells (asked uuid plan) image held
 
 -- the count of a device's faults
-abbrev pub first_faults : List Shown → ℕ
+abbrev pub first_faults : List ShownDevice → ℕ
 first_faults [] = 0
 first_faults (device ∷ others) = device.faults
 
 -- the text was that of a plan for the one device
-pub record IsPlanned (devices : List Shown) (left : Option (List ℕ)) (plan : Planned) : Type 0 where
+pub record IsPlanned (devices : List ShownDevice) (left : Option (List ℕ)) (plan : Planned) : Type 0 where
   pub fit : IsFit devices
   pub size : plan.size ≡ fit.device.size
   pub block : plan.block ≡ fit.device.block
@@ -137,13 +137,13 @@ pub record IsDone {F S D : Type 0} (ask : Request) (old new : Facts F S D) (repo
   pub run : IsRun ask.case ask.tells (uuid_of ask.words) plan (first_faults old.devices) (first_faults new.devices) new.held report
 
 -- the run's plan was not acquired whole
-pub record IsPart {F S D : Type 0} (ask : Request) (old new : Facts F S D) : Type 0 where
+pub record IsPartlyDone {F S D : Type 0} (ask : Request) (old new : Facts F S D) : Type 0 where
   pub plan : Planned
   pub planned : IsPlanned old.devices old.left plan
   pub cut_off : IsCutOff ask.case ask.tells (uuid_of ask.words) plan new.held
 
 -- the text is refused for the one device, by this line
-pub record IsRefused {F S D : Type 0} (old : Facts F S D) (line : List ℕ) : Type 0 where
+pub record IsRefusedBy {F S D : Type 0} (old : Facts F S D) (line : List ℕ) : Type 0 where
   pub fit : IsFit old.devices
   pub fault : TextFault
   pub says : line ≡ text_line fault
@@ -158,7 +158,7 @@ pub record AreKept {D : Type 0} (content : D → Option Content) (block size fau
   pub rising : (k : ℕ) (d : D) → k < length old → faults (slice_index_or old k d) ≤ faults (slice_index_or new k d)
 
 -- counts do not fall
-pub record IsLater {F S D : Type 0} (old new : Facts F S D) : Type 0 where
+pub record HaveNotFallen {F S D : Type 0} (old new : Facts F S D) : Type 0 where
   pub folder : old.folder_faults ≤ new.folder_faults
   pub source : old.source_faults ≤ new.source_faults
 
@@ -191,31 +191,31 @@ status_at n =
 abbrev pub Leaves : {F S D : Type 0} → Status → Request → Facts F S D → Facts F S D → List ℕ → Type 0
 Leaves done ask old new report = IsBegun ask old × IsDone ask old new report
 Leaves usage ask old new report = (¬ (AreAcquire ask.words)) × (new ≡ old)
-Leaves text ask old new line = IsBegun ask old × IsRefused old line × IsUntouched ask old new
+Leaves text ask old new line = IsBegun ask old × IsRefusedBy old line × IsUntouched ask old new
 Leaves source ask old new report = IsBegun ask old × Rose old.source_faults new.source_faults × IsUntouched ask old new
 Leaves sink ask old new report = IsBegun ask old × IsDone ask old new report
 Leaves folder ask old new report =
-    IsTaken ask old × Rose old.folder_faults new.folder_faults × ((IsUntouched ask old new × (new.source ≡ old.source)) ⊎ (IsBegun ask old × IsPart ask old new))
-Leaves memory ask old new report = (IsTrue ask.tells → new.held ≡ old.held) ⊎ (IsPart ask old new ⊎ ((whole : List ℕ) × IsDone ask old new whole))
-Leaves occupied ask old new report = IsTaken ask old × IsOccupied ask old × IsUntouched ask old new × (new.source ≡ old.source)
+    IsAccepted ask old × Rose old.folder_faults new.folder_faults × ((IsUntouched ask old new × (new.source ≡ old.source)) ⊎ (IsBegun ask old × IsPartlyDone ask old new))
+Leaves memory ask old new report = (IsTrue ask.tells → new.held ≡ old.held) ⊎ (IsPartlyDone ask old new ⊎ ((whole : List ℕ) × IsDone ask old new whole))
+Leaves occupied ask old new report = IsAccepted ask old × IsOccupied ask old × IsUntouched ask old new × (new.source ≡ old.source)
 Leaves devices ask old new report = AreAcquire ask.words × (¬ (IsFit old.devices)) × (new ≡ old)
 Leaves other ask old new report = ⊥
 
 -- the line of a device that is refused by itself: for a block that is neither 512 nor 4,096 bytes, else for its size
-abbrev pub device_line : Shown → List ℕ
+abbrev pub device_line : ShownDevice → List ℕ
 device_line d =
     if d.block == SECTOR then codes "error devices size 0 " ++ (decimal d.size ++ codes "\n")
     else (if d.block == LARGE_BLOCK then codes "error devices size 0 " ++ (decimal d.size ++ codes "\n")
     else codes "error devices sector 0 " ++ (decimal d.block ++ codes "\n"))
 
 -- the line of devices that are not fit
-abbrev pub devices_line : List Shown → List ℕ
+abbrev pub devices_line : List ShownDevice → List ℕ
 devices_line [] = codes "error devices none\n"
 devices_line (d ∷ []) = device_line d
 devices_line (d ∷ e ∷ others) = codes "error devices unbuilt\n"
 
 -- what is written at each status
-abbrev pub text_of : Status → List Shown → List ℕ → List ℕ
+abbrev pub text_of : Status → List ShownDevice → List ℕ → List ℕ
 text_of done handed report = report
 text_of usage handed report = codes "error usage\n"
 text_of text handed line = line
@@ -236,7 +236,7 @@ abbrev pub output : {K : Type 0} → SinkGhosts K → K → Output
 output k s = record { written = k.written s; faults = k.sink_faults s }
 
 -- the sink failed, and has a part of the text
-pub record IsCut (old new : Output) (text : List ℕ) : Type 0 where
+pub record IsWrittenInPart (old new : Output) (text : List ℕ) : Type 0 where
   pub rose : Rose old.faults new.faults
   pub n : ℕ
   pub some : n ≤ length text
@@ -245,16 +245,16 @@ pub record IsCut (old new : Output) (text : List ℕ) : Type 0 where
 -- what the sink has at each status: the text whole, a part of it, or at `memory` perhaps nothing
 abbrev pub Writes : Status → Output → Output → List ℕ → Type 0
 Writes done old new bytes = Appends old.written new.written bytes
-Writes sink old new bytes = IsCut old new bytes
-Writes memory old new bytes = Appends old.written new.written bytes ⊎ (IsCut old new bytes ⊎ Keeps old.written new.written)
-Writes _ old new bytes = Appends old.written new.written bytes ⊎ IsCut old new bytes
+Writes sink old new bytes = IsWrittenInPart old new bytes
+Writes memory old new bytes = Appends old.written new.written bytes ⊎ (IsWrittenInPart old new bytes ⊎ Keeps old.written new.written)
+Writes _ old new bytes = Appends old.written new.written bytes ⊎ IsWrittenInPart old new bytes
 
 -- how a run ends
 pub record IsOutcome {F S D : Type 0} (ask : Request) (old new : Facts F S D) (before after : Output) (status : ℕ) : Type 0 where
   pub report : List ℕ
   pub leaves : Leaves (status_at status) ask old new report
   pub writes : Writes (status_at status) before after (text_of (status_at status) old.devices report)
-  pub later : IsLater old new
+  pub later : HaveNotFallen old new
 
 -- the status of each fault, and its line
 abbrev pub code_of : Fault → ℕ
@@ -282,16 +282,16 @@ line_of Occupied = codes "error occupied\n"
 line_of (Devices refusal) = refusal_line refusal
 
 -- the answer of an acquisition, before anything is written
-abbrev pub IsAnswer : {A F S D : Type 0} → Request → Facts F S D → Facts F S D → Result (String A) Fault → Type 0
-IsAnswer ask old new (Ok report) = Leaves done ask old new (string_bytes report) × IsLater old new
-IsAnswer ask old new (Err fault) =
-    Leaves (status_at (code_of fault)) ask old new (line_of fault) × (line_of fault ≡ text_of (status_at (code_of fault)) old.devices (line_of fault)) × IsLater old new
+abbrev pub IsResult : {A F S D : Type 0} → Request → Facts F S D → Facts F S D → Result (String A) Fault → Type 0
+IsResult ask old new (Ok report) = Leaves done ask old new (string_bytes report) × HaveNotFallen old new
+IsResult ask old new (Err fault) =
+    Leaves (status_at (code_of fault)) ask old new (line_of fault) × (line_of fault ≡ text_of (status_at (code_of fault)) old.devices (line_of fault)) × HaveNotFallen old new
 
 -- what is written of an answer, and with what status
 abbrev pub IsTold : {A : Type 0} → Result (String A) Fault → Output → Output → ℕ → Type 0
 IsTold (Ok report) old new status =
     ((status ≡ 0) × Appends old.written new.written (string_bytes report))
-    ⊎ (((status ≡ 5) × IsCut old new (string_bytes report)) ⊎ ((status ≡ 7) × Keeps old.written new.written))
+    ⊎ (((status ≡ 5) × IsWrittenInPart old new (string_bytes report)) ⊎ ((status ≡ 7) × Keeps old.written new.written))
 IsTold (Err fault) old new status =
-    ((status ≡ code_of fault) × (Appends old.written new.written (line_of fault) ⊎ IsCut old new (line_of fault)))
+    ((status ≡ code_of fault) × (Appends old.written new.written (line_of fault) ⊎ IsWrittenInPart old new (line_of fault)))
     ⊎ ((status ≡ 7) × Keeps old.written new.written)

@@ -22,7 +22,7 @@ abbrev pub blocks_lost : ℕ → List Published → ℕ
 blocks_lost block history = sum_by (λ p. blocks_in block p.bad) history
 
 -- an extent by its number was read by worker 0, and its chunks were appended to a stream and numbered on from those before
-pub record IsTaken (case : Option Content) (block number : ℕ) (e : Extent) (tells : Bool) (old held : Held) (w v : Written) (before now : ℕ) (p : Published) : Type 0 where
+pub record IsExtentStored (case : Option Content) (block number : ℕ) (e : Extent) (tells : Bool) (old held : Held) (w v : Written) (before now : ℕ) (p : Published) : Type 0 where
   pub bytes : List ℕ
   pub reading : IsReading case block e bytes p.bad p.places
   pub is : p ≡ record { extent = number; claimant = 0; swept = false; bad = p.bad; places = p.places }
@@ -32,7 +32,7 @@ pub record IsTaken (case : Option Content) (block number : ℕ) (e : Extent) (te
   pub counted : RoseBy (blocks_in block p.bad) before now
 
 -- an extent was read, and its chunks were appended in part, or not at all
-pub record IsTakenInPart (case : Option Content) (block : ℕ) (e : Extent) (tells : Bool) (old held : Held) (w : Written) : Type 0 where
+pub record IsExtentStoredInPart (case : Option Content) (block : ℕ) (e : Extent) (tells : Bool) (old held : Held) (w : Written) : Type 0 where
   pub bytes : List ℕ
   pub bad : List ℕ
   pub places : List Place

@@ -4,8 +4,9 @@ use Rattle.std.specs.Fmt.{decimal}
 use Rattle.std.specs.Option.{option_map}
 use Rattle.aff_model.specs.declared.extent.Extent.{Extent}
 use Rattle.aff_model.specs.declared.limits.TheConstants.{MAX_TEXT}
-use Rattle.aff_plan.specs.Refused.{IsRefused, IsTextOf}
-use Rattle.aff_plan.specs.Text.{is_session, lines_of}
+use Rattle.aff_plan.specs.Refused.{IsPlanRefused, IsTextOf}
+use Rattle.aff_plan.specs.Text.{is_session}
+use Rattle.aff_spec.specs.Lines.{lines_of}
 use Rattle.aff_plan.specs.declared.error.PlanError.{PlanError}
 use Rattle.aff_plan.specs.declared.error.PlanError.TheVariants.{Shape, Number, Sector, TooLong, TooMany, PastEnd, Overlap, Priority, Total, Memory}
 use Rattle.aff_top.specs.declared.fault.Fault.{Fault}
@@ -22,7 +23,7 @@ pub record IsRunText (size block : ℕ) (extents : List Extent) (text : List ℕ
 -- for what a text is refused: it is too long; else it is no plan's; else a script begins at its line n
 abbrev pub IsTextRefused : ℕ → ℕ → List ℕ → TextFault → Type 0
 IsTextRefused size block text fault.TooLong = MAX_TEXT < length text
-IsTextRefused size block text (fault.Plan error) = (length text ≤ MAX_TEXT) × IsRefused size block text error
+IsTextRefused size block text (fault.Plan error) = (length text ≤ MAX_TEXT) × IsPlanRefused size block text error
 IsTextRefused size block text (fault.Script n) =
     (length text ≤ MAX_TEXT) × ((extents : List Extent) × IsTextOf size block text extents) × (option_map (λ k. k + 1) (position is_session (lines_of text)) ≡ Some n)
 

@@ -2,7 +2,7 @@
 ghost use Rattle.std.specs.Prelude.{◌≡◌, ◌<◌, ◌↔◌, IsTrue, map, length, slice_index_or, IfSome, IfNone};
 ghost use Rattle.aff_model.specs.Content.{IsBlock};
 ghost use Rattle.aff_spec.specs.Words.{IsDeviceSize};
-ghost use Rattle.aff_top.specs.Outcomes.{IsFit, Shown, device_line, devices_line, refusal_line, shown};
+ghost use Rattle.aff_top.specs.Outcomes.{IsFit, ShownDevice, device_line, devices_line, refusal_line, shown};
 
 use crate::fault::Refusal;
 use aff_model::{LARGE_BLOCK, MAX_SIZE, SECTOR};
@@ -26,7 +26,7 @@ pub fn first_block(devices: &[Box<dyn Device>]) -> u32
 
 // Why a device with such blocks and of such a size, both in bytes, is refused.
 fn refused_alone(block: u32, size: u64) -> Option<Refusal>
-    ensures some { IfSome result (λ r. (¬ (IsBlock block × IsDeviceSize block size)) × ((d : Shown) → d.block ≡ block → d.size ≡ size → refusal_line r ≡ device_line d)) }
+    ensures some { IfSome result (λ r. (¬ (IsBlock block × IsDeviceSize block size)) × ((d : ShownDevice) → d.block ≡ block → d.size ≡ size → refusal_line r ≡ device_line d)) }
     ensures none { IfNone result (IsBlock block × IsDeviceSize block size) }
 {
     if block as u64 != SECTOR && block as u64 != LARGE_BLOCK {

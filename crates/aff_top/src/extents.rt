@@ -6,7 +6,7 @@ ghost use Rattle.aff_model.specs.Content.{IsBlock};
 ghost use Rattle.aff_model.specs.Pieces.{published};
 ghost use Rattle.aff_model.specs.Plan.{IsExtent, IsPlan};
 ghost use Rattle.aff_plan.specs.Order.{IsOrderOf};
-ghost use Rattle.aff_top.specs.Stored.{AreAllStored, AreStored, AreStoredInPart, IsTaken, IsTakenInPart};
+ghost use Rattle.aff_top.specs.Stored.{AreAllStored, AreStored, AreStoredInPart, IsExtentStored, IsExtentStoredInPart};
 
 use crate::fault::{Fault, fault_of_folder};
 use aff_extent::ExtentReader;
@@ -31,10 +31,10 @@ fn store_extent<F: Folder>(
     requires block { IsBlock (device_block device.old) }
     requires going { stream.old.ended ≡ false }
     requires room { length stream.old.chunks ≤ MAX_CHUNKS }
-    ensures ok { IfOk result (λ piece. IsTaken (device_content device.old) (device_block device.old) number extent.now F.tells
+    ensures ok { IfOk result (λ piece. IsExtentStored (device_content device.old) (device_block device.old) number extent.now F.tells
         (F.held folder.old) (F.held folder.new) stream.old stream.new (device_faults device.old) (device_faults device.new) (published piece)) }
     ensures part { OnErr result ((IsTrue F.tells → F.held folder.new ≡ F.held folder.old)
-        ⊎ IsTakenInPart (device_content device.old) (device_block device.old) extent.now F.tells (F.held folder.old) (F.held folder.new) stream.old) }
+        ⊎ IsExtentStoredInPart (device_content device.old) (device_block device.old) extent.now F.tells (F.held folder.old) (F.held folder.new) stream.old) }
     ensures content { device_content device.new ≡ device_content device.old }
     ensures block { device_block device.new ≡ device_block device.old }
     ensures size { device_size device.new ≡ device_size device.old }

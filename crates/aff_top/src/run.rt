@@ -5,7 +5,7 @@ ghost use Rattle.aff_model.specs.Causes.{HasCause};
 ghost use Rattle.aff_model.specs.Plan.{IsPlan};
 ghost use Rattle.std.specs.FinMap.{empty};
 ghost use Rattle.aff_spec.specs.Words.{IsAcquire};
-ghost use Rattle.aff_top.specs.Outcomes.{AreAcquire, AreKept, IsAnswer, IsCutOff, IsOutcome, IsRun, facts, output, request, shown};
+ghost use Rattle.aff_top.specs.Outcomes.{AreAcquire, AreKept, IsResult, IsCutOff, IsOutcome, IsRun, facts, output, request, shown};
 
 use crate::acquire::acquire;
 use crate::devices::{first_block, first_size, refused};
@@ -23,13 +23,15 @@ use std::alloc::Global;
 /// The place of the first device among the words of an acquisition.
 const FIRST_DEVICE: usize = 3;
 
-/// What a run gives back: its status, and all that was handed in but the source and the sink.
+/// What a run gives back: its status, all that was handed in but the source and the sink, and the peeks that it made
+/// of the folder, of which there is none while no session reads.
 #[derive(Drop)]
 pub struct End<F: Folder> {
     pub status: u8,
     pub devices: Vec<Box<dyn Device>>,
     pub examiners: Vec<Box<dyn Examiner>>,
     pub folder: F,
+    pub peeks: Vec<F::Peek>,
 }
 
 /// What main is to make for these words. It takes no memory.
@@ -86,7 +88,7 @@ fn acquire_words<C: Case, F: Folder, S: Source>(
     source: &mut S,
 ) -> Result<String, Fault>
     requires told { IfSome C.content (λ c. All (λ d. device_content d ≡ Some c) devices.old.items) }
-    ensures answer { IsAnswer (request (map (λ w. w.now) words.now) C.content F.tells)
+    ensures answer { IsResult (request (map (λ w. w.now) words.now) C.content F.tells)
         (facts F.Folder S.Source (map (λ d. shown (device_content d) (device_block d) (device_size d) (device_faults d)) devices.old.items) devices.old.items folder.old source.old)
         (facts F.Folder S.Source (map (λ d. shown (device_content d) (device_block d) (device_size d) (device_faults d)) devices.new.items) devices.new.items folder.new source.new)
         result }
@@ -138,6 +140,9 @@ pub fn run_words<C: Case, F: Folder, S: Source, K: Sink, G: Gate>(
     // What was handed in comes back.
     ensures kept { AreKept (λ d. device_content d) (λ d. device_block d) (λ d. device_size d) (λ d. device_faults d) devices.items result.devices.items }
     ensures examiners { result.examiners.items ≡ examiners.items }
+
+    // No session reads yet.
+    ensures peeks { result.peeks.items ≡ [] }
 {
     let mut devices = devices;
     let mut folder = folder;
@@ -148,5 +153,6 @@ pub fn run_words<C: Case, F: Folder, S: Source, K: Sink, G: Gate>(
         devices,
         examiners,
         folder,
+        peeks: Vec::new(alloc),
     }
 }

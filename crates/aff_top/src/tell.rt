@@ -3,7 +3,7 @@ ghost use Rattle.std.specs.Prelude.{◌≡◌, ◌⊎◌, ◌++◌, codes, IfOk}
 ghost use Rattle.std.specs.Fmt.{decimal};
 ghost use Rattle.std.specs.Io.KnownBytes.{Appends, Keeps};
 ghost use Rattle.std.specs.String.{string_bytes};
-ghost use Rattle.aff_top.specs.Outcomes.{IsCut, IsTold, code_of, line_of, output, refusal_line};
+ghost use Rattle.aff_top.specs.Outcomes.{IsWrittenInPart, IsTold, code_of, line_of, output, refusal_line};
 ghost use Rattle.aff_top.specs.Texts.{plan_line, text_line};
 
 use crate::fault::{Fault, Refusal, TextFault};
@@ -72,7 +72,7 @@ fn line(alloc: Global, fault: Fault) -> Result<String, AllocError>
 // Writes the report, and answers the status.
 fn tell_report<K: Sink>(sink: &mut K, report: &str) -> u8
     ensures { ((result ≡ 0) × Appends (K.written sink.old) (K.written sink.new) report.now)
-        ⊎ (((result ≡ 5) × IsCut (output K.Sink sink.old) (output K.Sink sink.new) report.now) ⊎ ((result ≡ 7) × Keeps (K.written sink.old) (K.written sink.new))) }
+        ⊎ (((result ≡ 5) × IsWrittenInPart (output K.Sink sink.old) (output K.Sink sink.new) report.now) ⊎ ((result ≡ 7) × Keeps (K.written sink.old) (K.written sink.new))) }
 {
     match sink.write(report.as_bytes()) {
         Ok(()) => 0,
@@ -98,7 +98,7 @@ fn code(fault: Fault) -> u8
 
 // Writes the line of a fault, and answers the status: the fault's own, or that of want of memory.
 fn tell_fault<K: Sink>(alloc: Global, sink: &mut K, fault: Fault) -> u8
-    ensures { ((result ≡ code_of fault) × (Appends (K.written sink.old) (K.written sink.new) (line_of fault) ⊎ IsCut (output K.Sink sink.old) (output K.Sink sink.new) (line_of fault)))
+    ensures { ((result ≡ code_of fault) × (Appends (K.written sink.old) (K.written sink.new) (line_of fault) ⊎ IsWrittenInPart (output K.Sink sink.old) (output K.Sink sink.new) (line_of fault)))
         ⊎ ((result ≡ 7) × Keeps (K.written sink.old) (K.written sink.new)) }
 {
     let line = match line(alloc, fault) {

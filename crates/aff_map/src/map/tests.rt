@@ -32,7 +32,7 @@ fn opened(alloc: Global, stream: &Urn, rows: &[Row], idx: &str, size: u64) -> Re
     ensures { IfOk result (λ m. m.size ≡ size) }
 {
     let map = written(alloc, rows)?;
-    match Map::open(
+    Map::open(
         alloc,
         &map,
         idx.as_bytes(),
@@ -40,10 +40,7 @@ fn opened(alloc: Global, stream: &Urn, rows: &[Row], idx: &str, size: u64) -> Re
         stream,
         32_768,
         Target::Unknown,
-    ) {
-        Ok(map) => Ok(map),
-        Err(fault) => Err(fault),
-    }
+    )
 }
 
 #[test]

@@ -1,5 +1,5 @@
 use Rattle.std.proofs.Common.{◌++◌, ap, ◌∙◌}
-use Rattle.aff_linear.specs.Feeds.{image_bytes}
+use Rattle.aff_linear.specs.Feeds.{image_range}
 use Rattle.aff_linear.proofs.Volumes.{bytes_are}
 use Rattle.aff_linear.proofs.image.hash_image.Goals as goal
 
@@ -12,7 +12,7 @@ returns-in-Ok-clause-linear g c =
       record { md5 = c.finish.ensures.md5; sha1 = c.finish.ensures.sha1; sha256 = c.finish.ensures.sha256; sha512 = c.finish.ensures.sha512 },
       λ told.
           c.in-Ok.ensures.fed told
-          ∙ ap (λ v. v ++ image_bytes held c.in_ok-stream.stream c.args.entries.now 0 c.args.size) c.new-linear.ensures
-          ∙ ap (λ v. image_bytes held v c.args.entries.now 0 c.args.size) c.in_ok-stream.ensures.urn
+          ∙ ap (λ v. v ++ image_range held c.in_ok-stream.stream c.args.entries.now 0 c.args.size) c.new-linear.ensures
+          ∙ ap (λ v. image_range held v c.args.entries.now 0 c.args.size) c.in_ok-stream.ensures.urn
           ∙ bytes_are held c.args.uuid.now c.args.size image.chunks c.args.entries.now c.requires.uuid (image.stored told) image.runs.each,
     )

@@ -2,7 +2,7 @@ use Rattle.std.proofs.Common.{◌≡◌, ◌==◌, ◌∙◌, ◌+◌, ℕ, List
 use Rattle.std.specs.Slice.Iter.{split_rest, split_done, split_callee}
 use Rattle.std.proofs.lemmas.Iterator.Consumers.{YieldsList-end, YieldsList-so_far, YieldsList-turn}
 use Rattle.std.proofs.lemmas.Iterator.Splits.{YieldsList-from_slice_split}
-use Rattle.aff_spec.specs.Volumes.{lines_of}
+use Rattle.aff_spec.specs.Lines.{lines_of}
 use Rattle.aff_map.specs.Targets.{IsFirstUnnamed}
 use Rattle.aff_map.proofs.Lines.{AreRead, AreRead-all, AreRead-more, AreRead-none, first_unnamed}
 use Rattle.aff_map.proofs.idx.read_lines.Goals as goal

@@ -3,7 +3,7 @@ use Rattle.std.specs.Prelude.{IfErr, IfOk, OnOk}
 use Rattle.std.specs.List.{filter_map}
 use Rattle.std.proofs.lemmas.Bool.Decides.{nat_tests}
 use Rattle.aff_map.specs.declared.error.MapError.TheVariants.{BadTarget, Memory}
-use Rattle.aff_spec.specs.Volumes.{lines_of}
+use Rattle.aff_spec.specs.Lines.{lines_of}
 use Rattle.aff_map.specs.Targets.{IsFirstUnnamed, IsNamed, target_lines, target_of}
 use Rattle.aff_map.proofs.Lines.{target_lines-none, target_lines-some}
 use Rattle.aff_map.proofs.idx.read_targets.Goals as goal

@@ -1,7 +1,8 @@
 use Rattle.std.proofs.Common.{◌≡◌, ◌+◌, ◌++◌, ◌∷◌, [], Some, ap, append_assoc, arith, length-append, sym, subst, true, false, ◌∙◌}
 use Rattle.std.proofs.lemmas.List.{append-nil}
 use Rattle.aff_plan.specs.Reading.{parts_behind}
-use Rattle.aff_plan.specs.Text.{is_session, lines_of}
+use Rattle.aff_plan.specs.Text.{is_session}
+use Rattle.aff_spec.specs.Lines.{lines_of}
 use Rattle.aff_plan.proofs.Walk.{AreNoSession, no_session, no_session_more, room, room_less, session_at}
 use Rattle.aff_plan.proofs.script.script_line.Goals as goal
 

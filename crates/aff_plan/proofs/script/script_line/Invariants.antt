@@ -1,6 +1,6 @@
 use Rattle.std.proofs.Common.{◌≡◌, ◌+◌, ◌≤◌, List, ◌++◌, ℕ, length}
 use Rattle.aff_plan.specs.Reading.{parts_behind}
-use Rattle.aff_plan.specs.Text.{lines_of}
+use Rattle.aff_spec.specs.Lines.{lines_of}
 use Rattle.aff_plan.proofs.Walk.{AreNoSession, room}
 use Rattle.aff_plan.proofs.script.script_line.Given as goal
 

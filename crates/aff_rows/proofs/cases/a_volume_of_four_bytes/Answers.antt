@@ -11,7 +11,8 @@ use Rattle.aff_fields.specs.Point.{point_at}
 use Rattle.aff_spec.specs.Names.{bevvy_name, index_name, map_name, idx_name, stream_urn, image_urn}
 use Rattle.aff_spec.specs.Runs.{lookup}
 use Rattle.aff_spec.specs.Streams.{part_of}
-use Rattle.aff_spec.specs.Volumes.{spot_cell, spot_byte, target_cell, target_byte, lines_of, volume_of}
+use Rattle.aff_spec.specs.Lines.{lines_of}
+use Rattle.aff_spec.specs.Volumes.{spot_cell, spot_byte, target_cell, target_byte, volume_of}
 use Rattle.aff_rows.specs.Small.{four_bytes, four_bytes_segments, uuid}
 use Rattle.aff_rows.proofs.cases.a_volume_of_four_bytes.Goals as goal
 

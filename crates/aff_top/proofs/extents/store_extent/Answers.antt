@@ -3,7 +3,7 @@ use Rattle.aff_model.specs.History.{publication_of}
 use Rattle.aff_extent.specs.Drafts.{IsDraft}
 use Rattle.aff_spec.specs.Bevvies.{more_appends}
 use Rattle.aff_store.specs.Pieces.{chosen_chunks}
-use Rattle.aff_top.specs.Stored.{IsTaken}
+use Rattle.aff_top.specs.Stored.{IsExtentStored}
 use Rattle.aff_top.proofs.Endings.{Reaches-all}
 use Rattle.aff_top.proofs.Taking.{is_taken, is_taken_in_part}
 use Rattle.aff_top.proofs.extents.store_extent.Goals as goal
@@ -29,7 +29,7 @@ returns-in-Ok-new-clause-ok g c =
     let old = g.F.Folder.held c.args.folder.now in
     let new = g.F.Folder.held c.put.new.folder in
     let w = c.args.stream.now in
-    subst (λ q. IsTaken case block c.args.number e tells old new w c.put.new.self before now (publication_of q)) (sym c.in-Ok-new.ensures.ok)
+    subst (λ q. IsExtentStored case block c.args.number e tells old new w c.put.new.self before now (publication_of q)) (sym c.in-Ok-new.ensures.ok)
     (is_taken case block c.args.number e c.bytes.result.now d tells old new w g.F.Receipt.Telling.told c.in-Ok-put.piece c.put.new.self before now
     (subst (λ v. IsDraft case block e v d) (sym c.bytes.ensures) c.in-Ok.ensures.draft) c.in-Ok-put.ensures.piece c.in-Ok-put.ensures.next c.in-Ok-put.ensures.ok c.in-Ok.ensures.faults)
 

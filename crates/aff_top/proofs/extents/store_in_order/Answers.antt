@@ -5,7 +5,7 @@ use Rattle.aff_model.specs.Content.{IsBlock}
 use Rattle.aff_model.specs.Pieces.{published}
 use Rattle.aff_model.specs.Plan.{IsExtent}
 use Rattle.aff_model.specs.declared.extent.Extent.{Extent}
-use Rattle.aff_top.specs.Stored.{AreStored, IsTaken, IsTakenInPart}
+use Rattle.aff_top.specs.Stored.{AreStored, IsExtentStored, IsExtentStoredInPart}
 use Rattle.aff_top.proofs.Ordered.{number_below}
 use Rattle.aff_top.proofs.Storing.{going, none_stored, nothing_stored, room, stored_in_part, stored_next}
 use Rattle.aff_top.proofs.extents.store_in_order.Goals as goal
@@ -61,8 +61,8 @@ returns-in-Err-outcome-clause-part g c =
     let e_is : c.extent_of-extent.result.now ≡ get_or plan.extents k none = c.extent_of-extent.ensures none ∙ ap (λ v. get_or v k none) c.extents-extents.ensures.extents in
     stored_in_part g.C.Case.content plan c.extents-extents.ensures.plan c.args.order.now c.requires.ordered n none (omega arith) tells c.args.stream.now.urn (g.F.Folder.held c.args.folder.now) mid w _ _ _ c.loop-number.invariant.stored
     own (subst (λ o. IfSome g.C.Case.content (λ x. o ≡ Some x)) (sym c.loop-number.invariant.content) c.requires.told) new
-    (subst (λ b. (IsTrue tells → new ≡ mid) ⊎ IsTakenInPart own b (get_or plan.extents k none) tells mid new w) (c.loop-number.invariant.block ∙ sym c.requires.block)
-    (subst (λ e. (IsTrue tells → new ≡ mid) ⊎ IsTakenInPart own block e tells mid new w) e_is c.in-Err-outcome.ensures.part))
+    (subst (λ b. (IsTrue tells → new ≡ mid) ⊎ IsExtentStoredInPart own b (get_or plan.extents k none) tells mid new w) (c.loop-number.invariant.block ∙ sym c.requires.block)
+    (subst (λ e. (IsTrue tells → new ≡ mid) ⊎ IsExtentStoredInPart own block e tells mid new w) e_is c.in-Err-outcome.ensures.part))
 
 pub loop-number-init : goal.loop-number-init
 loop-number-init g c =
@@ -102,10 +102,10 @@ loop-number-preserved g c =
     let start = (goal.Device-dyn g c.args.device.now).device_faults c.args.device.now.1 in
     let before = device.device_faults c.loop-number.device.now.1 in
     let now = (goal.Device-dyn g (c.loop-number.device.now.0, c.store_extent-outcome.new.device)).device_faults c.store_extent-outcome.new.device in
-    let there : IsTaken own block k (get_or plan.extents k none) tells mid new w v before now p =
-    subst (λ e. IsTaken own block k e tells mid new w v before now p) e_is c.in-Ok-outcome.ensures.ok in
-    let taken : IsTaken own plan.block k (get_or plan.extents k none) tells mid new w v before now p =
-    subst (λ b. IsTaken own b k (get_or plan.extents k none) tells mid new w v before now p) (c.loop-number.invariant.block ∙ sym c.requires.block) there in
+    let there : IsExtentStored own block k (get_or plan.extents k none) tells mid new w v before now p =
+    subst (λ e. IsExtentStored own block k e tells mid new w v before now p) e_is c.in-Ok-outcome.ensures.ok in
+    let taken : IsExtentStored own plan.block k (get_or plan.extents k none) tells mid new w v before now p =
+    subst (λ b. IsExtentStored own b k (get_or plan.extents k none) tells mid new w v before now p) (c.loop-number.invariant.block ∙ sym c.requires.block) there in
     let next : AreStored g.C.Case.content plan c.args.order.now (n + 1) tells c.args.stream.now.urn old new v start now (history ++ p ∷ []) =
     stored_next g.C.Case.content plan c.extents-extents.ensures.plan c.args.order.now c.requires.ordered n none (omega arith) tells c.args.stream.now.urn old mid w start before history c.loop-number.invariant.stored
     own (subst (λ o. IfSome g.C.Case.content (λ x. o ≡ Some x)) (sym c.loop-number.invariant.content) c.requires.told) new v now p taken in

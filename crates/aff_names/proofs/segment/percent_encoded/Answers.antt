@@ -1,6 +1,6 @@
 use Rattle.std.proofs.Common.{arith}
 use Rattle.aff_names.proofs.Percent.{percent_is_folder_name}
-use Rattle.aff_names.proofs.segment.escaped.Goals as goal
+use Rattle.aff_names.proofs.segment.percent_encoded.Goals as goal
 
 pub returns : goal.returns
 returns c =
