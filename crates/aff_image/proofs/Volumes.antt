@@ -14,7 +14,7 @@ use Rattle.aff_model.specs.Legal.{IsComplete}
 use Rattle.aff_model.specs.Plan.{IsPlan}
 use Rattle.aff_fields.specs.declared.entry.Entry.{Entry}
 use Rattle.aff_fields.specs.Entry.{entries_of, FitsEntry}
-use Rattle.aff_spec.specs.Appends.{applied, Reaches}
+use Rattle.aff_spec.specs.Appends.{applied}
 use Rattle.aff_spec.specs.Bevvies.{bevvy_count}
 use Rattle.aff_spec.specs.Names.{map_name, idx_name, stream_urn, image_urn, zero_iri, unreadable_iri}
 use Rattle.aff_spec.specs.Runs.{Spot, lookup, AreGreatestRuns}
@@ -27,7 +27,7 @@ use Rattle.aff_spec.specs.Words.{is_uuid}
 use Rattle.aff_spec.proofs.Chunks.{AreChunks}
 use Rattle.aff_spec.proofs.Targets.{first_target, second_target, third_target, stream_cell, stream_byte_of}
 use Rattle.aff_image.specs.Image.{Image, IsImageBy, acquired_content, image_bytes, image_spot}
-use Rattle.aff_image.specs.Volume.{IsVolume, IsNearlyVolume, image_appends}
+use Rattle.aff_image.specs.Volume.{IsVolume, image_appends}
 use Rattle.aff_image.proofs.Cells.{CellReads}
 use Rattle.aff_image.proofs.Counts.{few_kept}
 use Rattle.aff_image.proofs.Images.{image_reads-acquired, has_readings}
@@ -118,12 +118,6 @@ module _ (case : Option Content) (workers : ℕ) (uuid : List ℕ) (m : Image) (
 
   pub is_volume : is_uuid uuid ≡ true → (held : Held) → held ≡ applied empty (image_appends uuid m entries) → IsVolume uuid m held
   is_volume ok held made = subst (IsVolume uuid m) (sym made) (whole_volume ok).0
-
-  -- and what some of them make is nearly it
-  pub is_nearly : is_uuid uuid ≡ true → (held : Held) → Reaches empty (image_appends uuid m entries) held → IsNearlyVolume uuid m held
-  is_nearly ok held reached =
-      let v = whole_volume ok in
-      record { whole = whole; volume = v.0; complete = complete; reached = subst (λ es. Reaches empty (image_appends uuid m es) held) (sym v.1) reached }
 
   -- and all bytes of its image can be read there in their order
   pub is_walkable : (tells : Bool) (held : Held) → (IsTrue tells → held ≡ applied empty (image_appends uuid m entries)) → IsWalkable tells held uuid m.plan.size entries

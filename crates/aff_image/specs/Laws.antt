@@ -1,5 +1,5 @@
 -- What holds of every run, for any number of workers and any order of publications.
-use Rattle.std.specs.Prelude.{◌≡◌, ℕ, ◌≤◌, Bool, true, List, [], ◌∷◌, ◌++◌, length, map, Option, Some, IfSome, IsTrue, All, Contains}
+use Rattle.std.specs.Prelude.{◌≡◌, ℕ, ◌≤◌, true, List, [], ◌∷◌, ◌++◌, length, map, Option, Some, IfSome, All, Contains}
 use Rattle.std.specs.List.{range_with_len}
 use Rattle.std.specs.FinMap.{empty}
 use Rattle.aff_model.specs.declared.limits.TheConstants.{MAX_CHUNKS}
@@ -10,15 +10,11 @@ use Rattle.aff_model.specs.Legal.{IsClaimant, IsComplete, numbers_of}
 use Rattle.aff_model.specs.Plan.{Planned, IsPlan}
 use Rattle.aff_fields.specs.declared.entry.Entry.{Entry}
 use Rattle.aff_fields.specs.Entry.{FitsEntry}
-use Rattle.aff_spec.specs.Acquired.{volume_appends}
-use Rattle.aff_spec.specs.Appends.{applied, Reaches}
+use Rattle.aff_spec.specs.Appends.{applied}
 use Rattle.aff_spec.specs.Bevvies.{more_appends, written}
-use Rattle.aff_spec.specs.Names.{stream_urn}
-use Rattle.aff_spec.specs.Runs.{AreGreatestRuns, history_spot}
+use Rattle.aff_spec.specs.Runs.{AreGreatestRuns}
 use Rattle.aff_spec.specs.Volumes.{volume_of, volume_bytes}
 use Rattle.aff_spec.specs.Words.{is_uuid}
-use Rattle.aff_image.specs.Finished.{Asked, IsFinished, IsStopped}
-use Rattle.aff_image.specs.Hashes.{Hashed, linear_of}
 use Rattle.aff_image.specs.Image.{Image, IsImageBy, acquired_content, image_at, image_bytes, image_cell, image_spot}
 use Rattle.aff_image.specs.Volume.{IsVolume, image_appends}
 use Rattle.aff_image.specs.Witnesses.{Witnessed, AreWitnessed, IsWitnessed, history_of, kept_chunks, kept_of}
@@ -85,29 +81,3 @@ abbrev pub AppendBehind : Type 0
 AppendBehind =
     (stream : List ℕ) (readings : List Witnessed) (r : Witnessed)
     → written stream (kept_chunks (readings ++ r ∷ [])) ≡ written stream (kept_chunks readings) ++ more_appends stream (kept_chunks readings) (kept_of r)
-
--- what holds of the readings of every run
-abbrev pub OfEachRun : (Option Content → Bool → Asked → List Witnessed → Type 0) → Type 0
-OfEachRun P =
-    (case : Option Content) (tells : Bool) (asked : Asked) (readings : List Witnessed) → IsPlan asked.plan.size asked.plan.block asked.plan.extents
-    → AreWitnessed case asked.plan asked.workers readings → P case tells asked readings
-
--- a folder that the appends of its chunks reach is one that it may leave where it stops
-abbrev pub MayStop : Type 0
-MayStop = OfEachRun (λ case tells asked readings.
-    (held : Held) → (IsTrue tells → Reaches empty (written (stream_urn asked.uuid) (kept_chunks readings)) held) → (m : Image) × (m.history ≡ history_of readings) × IsStopped case tells asked m held)
-
--- so is one that the appends behind its stream reach, where the readings are complete
-abbrev pub MayStopBehind : Type 0
-MayStopBehind = OfEachRun (λ case tells asked readings.
-    IsComplete asked.plan.extents (history_of readings) → (entries : List Entry) (held : Held) → is_uuid asked.uuid ≡ true
-    → AreGreatestRuns (history_spot asked.plan.extents (history_of readings)) entries → All FitsEntry entries
-    → (IsTrue tells → Reaches empty (volume_appends asked.uuid (kept_chunks readings) entries) held) → (m : Image) × (m.history ≡ history_of readings) × IsStopped case tells asked m held)
-
--- and a folder that all appends of its volume made, read back whole, is finished
-abbrev pub MayFinish : Type 0
-MayFinish = OfEachRun (λ case tells asked readings.
-    IsComplete asked.plan.extents (history_of readings) → (entries : List Entry) (held : Held) (h : Hashed) (bytes : List ℕ) → is_uuid asked.uuid ≡ true
-    → AreGreatestRuns (history_spot asked.plan.extents (history_of readings)) entries → All FitsEntry entries
-    → (IsTrue tells → held ≡ applied empty (volume_appends asked.uuid (kept_chunks readings) entries)) → h.linear ≡ linear_of bytes
-    → (IsTrue tells → bytes ≡ volume_bytes held (volume_of asked.uuid) asked.plan.size) → (m : Image) × (m.history ≡ history_of readings) × IsFinished case tells asked m held h)

@@ -1,5 +1,4 @@
-pub mod Finished
-pub mod Hashes
+pub mod Asked
 pub mod Image
 pub mod Laws
 pub mod Small

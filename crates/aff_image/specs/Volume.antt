@@ -1,12 +1,10 @@
--- What a run leaves in its folder.
-use Rattle.std.specs.Prelude.{◌≡◌, ℕ, ◌↔◌, ◌⊎◌, List, length, Some, IsSome, Contains}
+-- The volume of an image, up to its map and the list of its targets.
+use Rattle.std.specs.Prelude.{◌≡◌, ℕ, ◌↔◌, List, length, Some, IsSome, Contains}
 use Rattle.std.specs.FinMap.{empty, get}
 use Rattle.aff_model.specs.Held.{Held}
-use Rattle.aff_model.specs.Legal.{IsComplete}
 use Rattle.aff_fields.specs.declared.entry.Entry.{Entry}
 use Rattle.aff_spec.specs.Acquired.{volume_appends, segment_names}
-use Rattle.aff_spec.specs.Appends.{Append, applied, Reaches}
-use Rattle.aff_spec.specs.Bevvies.{written}
+use Rattle.aff_spec.specs.Appends.{Append, applied}
 use Rattle.aff_spec.specs.BlockHashes.{HasBlockHashes}
 use Rattle.aff_spec.specs.Names.{stream_urn}
 use Rattle.aff_spec.specs.Runs.{AreGreatestRuns}
@@ -28,14 +26,3 @@ pub record IsVolume (uuid : List ℕ) (m : Image) (held : Held) : Type 0 where
   pub cells : (i : ℕ) → volume_cell held (volume_of uuid) i ≡ Some (acquired_content m i)
   pub bytes : (i : ℕ) → volume_byte held (volume_of uuid) i ≡ Some (fill_of i (acquired_content m i))
   pub blocks : HasBlockHashes held (stream_urn uuid) (length m.chunks)
-
--- some first of the appends that make the whole volume were made, perhaps with a prefix of the next one
-pub record IsNearlyVolume (uuid : List ℕ) (m : Image) (held : Held) : Type 0 where
-  pub whole : Held
-  pub volume : IsVolume uuid m whole
-  pub complete : IsComplete m.plan.extents m.history
-  pub reached : Reaches empty (image_appends uuid m volume.entries) held
-
--- the order of appends of an image had got so far: into its stream, or into what ends the volume
-abbrev pub HasReached : List ℕ → Image → Held → Type 0
-HasReached uuid m held = Reaches empty (written (stream_urn uuid) m.chunks) held ⊎ IsNearlyVolume uuid m held

@@ -1,6 +1,6 @@
 //! What holds of every run, for any number of workers and any order of publications. These functions do nothing: each
 //! has laws as its contract.
-ghost use Rattle.aff_image.specs.Laws.{AppendBehind, AreOfOneContent, HasFewChunks, HasImagesBefore, HaveSameBytes, IsAcquiredWhole, IsOfBadSectors, MakeAnImage, MakesItsVolume, MayFinish, MayStop, MayStopBehind, ReadsAsItsImage, TakeOneMore};
+ghost use Rattle.aff_image.specs.Laws.{AppendBehind, AreOfOneContent, HasFewChunks, HasImagesBefore, HaveSameBytes, IsAcquiredWhole, IsOfBadSectors, MakeAnImage, MakesItsVolume, ReadsAsItsImage, TakeOneMore};
 
 /// Readings by several workers over devices that tell nothing are of one content, and over devices that tell one are of
 /// that.
@@ -33,12 +33,4 @@ pub fn a_complete_image_has_its_volume()
 pub fn the_order_does_not_matter()
     ensures content { IsOfBadSectors }
     ensures bytes { HaveSameBytes }
-{}
-
-/// How a run ends: a folder that its appends reach holds what a run may leave where it stops, and one that all of them
-/// made is finished.
-pub fn runs_end()
-    ensures stopped { MayStop }
-    ensures behind { MayStopBehind }
-    ensures finished { MayFinish }
 {}

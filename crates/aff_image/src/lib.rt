@@ -1,6 +1,6 @@
-//! What a run leaves: the image that the publications of any number of workers make in any order, the volume that
-//! a finished run leaves in its folder, and how far another run had got. There is no code here but laws; `specs/` has a
-//! file for each subject, and `proofs/` what a run that stores has to cite.
+//! The image that the publications of any number of workers make in any order, and its volume: its stream and its map
+//! in a folder, and what they read as. There is no code here but laws; `specs/` has a file for each subject, and `proofs/`
+//! what a run that stores has to cite. How a volume is finished is `aff_finish`'s.
 #![tactic(auto)]
 
 pub mod cases;

@@ -15,6 +15,8 @@ mod folders;
 #[cfg(test)]
 mod hashes;
 #[cfg(test)]
+mod metadata;
+#[cfg(test)]
 mod plans;
 #[cfg(test)]
 mod tests;

@@ -2,11 +2,13 @@
 use crate::fixture::{
     Faults, IMAGE, NONE, STREAM, card, holds, is_missing, maps, run, segment, wrote,
 };
+use crate::metadata::info;
+use aff_outside::read_segment;
 use std::alloc::Global;
 use std::test::Fail;
 
 const REPORT: &str =
-    "volume aff4://11111111-2222-4333-8444-555555555555\nsize 512\nextents 1\npublications 1\npublication 1 0 0 own - c0+1\nmd5 393a0fa0f348fb03871ab93726057ddc\nsha1 3ef8a08ec90e244fe2a8948b701eafcc1d065712\nsha256 6caf38d537984e261527b8caef5f990fb91415a1db917198821a79ed28997973\nsha512 611bae45b1eeaa2cb58bcb84279dadc33bbaad68aad0744064b171dac2e8bd2e71d97274a90c2d31268c1588cc2c64824914dfc01ba7d13e1bae734767c79ec5\n";
+    "volume aff4://11111111-2222-4333-8444-555555555555\nsize 512\nextents 1\npublications 1\npublication 1 0 0 own - c0+1\nmd5 393a0fa0f348fb03871ab93726057ddc\nsha1 3ef8a08ec90e244fe2a8948b701eafcc1d065712\nsha256 6caf38d537984e261527b8caef5f990fb91415a1db917198821a79ed28997973\nsha512 611bae45b1eeaa2cb58bcb84279dadc33bbaad68aad0744064b171dac2e8bd2e71d97274a90c2d31268c1588cc2c64824914dfc01ba7d13e1bae734767c79ec5\nblockmap d219551054caad859a403458674b3794526e4fe608180af45c50e581b5caad430f0312a3b4fbd80a98d7773529bfa523a5114733fbc9a26cc2b46657d471f589\n";
 
 const TARGETS: &[u8] =
     b"aff4://11111111-2222-4333-8444-555555555555/data\nhttp://aff4.org/Schema#Zero\nhttp://aff4.org/Schema#UnreadableData\n";
@@ -74,7 +76,10 @@ fn faults_of_the_streams(rt: HostRuntime) -> Result<(), Fail> {
     }
     let mut cut = run(alloc, TEXT, card(alloc, 1)?, Faults { sink: 1, ..NONE })?;
     wrote(&cut, 5, "")?;
-    maps(alloc, &mut cut.folder, "0 512 0 0\n")
+    // The volume is finished all the same.
+    maps(alloc, &mut cut.folder, "0 512 0 0\n")?;
+    assert_eq!(rt; info(alloc, &mut cut.folder)?.info.image_size, 512);
+    Ok(())
 }
 
 /// How many calls of the folder a run makes.
@@ -85,11 +90,18 @@ fn calls(alloc: Global) -> Result<u64, Fail> {
 #[test]
 fn faults_of_the_folder(rt: HostRuntime) -> Result<(), Fail> {
     let alloc = rt.alloc();
-    // The list; the chunk, its index and three digests, the map, the targets; the chunk read back.
-    assert_eq!(rt; calls(alloc)?, 9);
-    for folder in 1..10 {
-        let ran = run(alloc, TEXT, card(alloc, 1)?, Faults { folder, ..NONE })?;
+    // The list; the chunk, its index and three digests, the map, the targets; what is read back: the chunk, three
+    // digests, the map, the targets; the version, the volume's URN and its metadata.
+    assert_eq!(rt; calls(alloc)?, 17);
+    for folder in 1..18 {
+        let mut ran = run(alloc, TEXT, card(alloc, 1)?, Faults { folder, ..NONE })?;
         wrote(&ran, 6, "error folder\n")?;
+        assert!(rt;
+            matches!(
+                read_segment(alloc, &mut ran.folder, "information.turtle"),
+                Ok(None)
+            )
+        );
     }
     Ok(())
 }

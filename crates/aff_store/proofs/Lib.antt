@@ -4,4 +4,5 @@ mod Cuts
 mod FirstPlaces
 mod Joining
 mod Placings
+pub mod Readings
 mod Steps

@@ -1,5 +1,5 @@
 -- What is kept of an extent that was stored.
-use Rattle.std.specs.Prelude.{◌≡◌, ℕ, ◌<◌, Bool, false, List, length, map, slice_index_or, IsTrue}
+use Rattle.std.specs.Prelude.{◌≡◌, ℕ, ◌<◌, Bool, List, length, map, slice_index_or, IsTrue}
 use Rattle.std.specs.List.{range_with_len}
 use Rattle.sha2.specs.Sha256.{sha256}
 use Rattle.aff_model.specs.declared.publication.Place.{Place}
@@ -10,6 +10,7 @@ use Rattle.aff_spec.specs.Chunks.{chunk_at}
 use Rattle.aff_chunk.specs.declared.kind.Cut.{Cut}
 use Rattle.aff_chunk.specs.declared.kind.Cut.TheVariants.{Zero as CutZero, Stored as CutStored, Nothing as CutNothing}
 use Rattle.aff_extent.specs.Drafts.{Drafted}
+use Rattle.aff_store.specs.declared.claim.Claim.{Claim}
 
 -- a chunk that is cut so has such a place
 abbrev pub IsPlaceOf : Cut → Place → Type 0
@@ -33,10 +34,10 @@ pub record ArePlaces (first : ℕ) (cuts : List Cut) (places : List Place) : Typ
 abbrev pub chosen_chunks : List ℕ → List ℕ → List (List ℕ)
 chosen_chunks bytes stored = map (chunk_at bytes) stored
 
--- the piece of an extent by its number: read by worker 0, with the unreadable sectors and the places of the draft, and of each
--- stored chunk the SHA-256 and a receipt, which tells it, where it tells
-pub record IsPieceOf (number first : ℕ) (bytes : List ℕ) (d : Drafted) (tells : Bool) {R : Type 0} (told : R → List ℕ) (p : Part R) : Type 0 where
-  pub is : publication_of p ≡ record { extent = number; claimant = 0; swept = false; bad = d.unreadable; places = p.places }
+-- the piece of a claim: with the unreadable sectors and the places of the draft, and of each stored chunk the SHA-256 and a
+-- receipt, which tells it, where it tells
+pub record IsPieceOf (claim : Claim) (first : ℕ) (bytes : List ℕ) (d : Drafted) (tells : Bool) {R : Type 0} (told : R → List ℕ) (p : Part R) : Type 0 where
+  pub is : publication_of p ≡ record { extent = claim.extent; claimant = claim.claimant; swept = claim.swept; bad = d.unreadable; places = p.places }
   pub placed : ArePlaces first d.cuts p.places
   pub digests : p.digests ≡ map sha256 (chosen_chunks bytes d.stored)
   pub receipts : length p.receipts ≡ length d.stored

@@ -5,9 +5,11 @@
 //! piece, which becomes a publication of the run's history.
 #![tactic(auto)]
 
+mod claim;
 mod places;
 mod store;
 mod stream;
 mod tagged;
 
+pub use claim::Claim;
 pub use stream::{MAX_STREAM, Stream};

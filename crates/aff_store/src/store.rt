@@ -10,8 +10,8 @@ ghost use Rattle.aff_spec.specs.Chunks.{chunk_at};
 ghost use Rattle.aff_extent.specs.Drafts.{stored_from};
 ghost use Rattle.aff_store.specs.Pieces.{IsPieceOf, chosen_chunks};
 
-use crate::Stream;
 use crate::places::places_of;
+use crate::{Claim, Stream};
 use aff_extent::Draft;
 use aff_hash::{ChunkSums, chunk, padded_end};
 use aff_model::{MAX_CHUNKS, MAX_EXTENT_CHUNKS, Memory, Piece};
@@ -19,13 +19,13 @@ use aff_outside::{Folder, FolderError};
 use std::alloc::{AllocError, Global};
 
 impl Stream {
-    /// Appends the chunks of an extent that are to be stored, and gives its piece as that of worker 0. `bytes` are
-    /// the extent's, of which the draft speaks.
+    /// Appends the chunks of an extent that are to be stored, and gives its piece under the claim. `bytes` are the
+    /// extent's, of which the draft speaks.
     pub fn put<F: Folder>(
         &mut self,
         alloc: Global,
         folder: &mut F,
-        number: u32,
+        claim: Claim,
         draft: Draft,
         bytes: &[u8],
     ) -> Result<Piece<F::Receipt>, FolderError>
@@ -35,7 +35,7 @@ impl Stream {
         requires few { length draft.cuts ≤ MAX_EXTENT_CHUNKS }
         requires chosen { draft.stored ≡ stored_from 0 draft.cuts }
         requires digests { draft.sums ≡ chosen_sums bytes.now draft.stored }
-        ensures piece { IfOk result (λ p. IsPieceOf number (length self.old.chunks) bytes.now draft F.tells F.Receipt.told p) }
+        ensures piece { IfOk result (λ p. IsPieceOf claim (length self.old.chunks) bytes.now draft F.tells F.Receipt.told p) }
         ensures next { OnOk result (self.new ≡ record { urn = self.old.urn; chunks = self.old.chunks ++ chosen_chunks bytes.now draft.stored; ended = false }) }
         ensures ok { OnOk result (IsTrue F.tells → F.held folder.new ≡ applied (F.held folder.old) (more_appends self.old.urn self.old.chunks (chosen_chunks bytes.now draft.stored))) }
         ensures part { OnErr result (IsTrue F.tells → Reaches (F.held folder.old) (more_appends self.old.urn self.old.chunks (chosen_chunks bytes.now draft.stored)) (F.held folder.new)) }
@@ -54,9 +54,9 @@ impl Stream {
             Err(error) => return Err(error),
         };
         Ok(Piece {
-            extent: number,
-            claimant: 0,
-            swept: false,
+            extent: claim.extent,
+            claimant: claim.claimant,
+            swept: claim.swept,
             bad: draft.unreadable,
             places,
             digests,

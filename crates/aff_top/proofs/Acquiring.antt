@@ -4,7 +4,7 @@ use Rattle.std.specs.Prelude.{Bool, None, Option, Some, All, Contains, IsTrue, M
 use Rattle.std.specs.FinMap.{empty}
 use Rattle.std.proofs.lemmas.List.{take_all}
 use Rattle.aff_model.specs.declared.extent.Extent.{Extent}
-use Rattle.aff_model.specs.declared.limits.TheConstants.{MAX_CHUNKS}
+use Rattle.aff_model.specs.declared.limits.TheConstants.{MAX_CHUNKS, MAX_SIZE}
 use Rattle.aff_model.specs.declared.publication.Place.{Place}
 use Rattle.aff_model.specs.declared.publication.Place.TheVariants.{Zero, Chunk, Nothing}
 use Rattle.aff_model.specs.Content.{Content}
@@ -17,24 +17,23 @@ use Rattle.aff_fields.specs.declared.entry.Entry.{Entry}
 use Rattle.aff_fields.specs.Entry.{FitsEntry}
 use Rattle.aff_device.specs.Around.{RoseBy}
 use Rattle.aff_map.specs.Mappable.{AreMappable, IsMappable, IsNumbered}
-use Rattle.aff_spec.specs.Acquired.{end_appends}
 use Rattle.aff_spec.specs.Appends.{applied, Reaches}
 use Rattle.aff_spec.specs.Bevvies.{written}
-use Rattle.aff_spec.specs.Digests.{linear_lines}
 use Rattle.aff_spec.specs.Names.{stream_urn}
 use Rattle.aff_spec.specs.Report.{report_text}
 use Rattle.aff_spec.specs.Runs.{AreGreatestRuns, history_spot}
-use Rattle.aff_spec.specs.Volumes.{volume_of, volume_bytes}
 use Rattle.aff_spec.specs.Walks.{IsWalkable}
 use Rattle.aff_spec.specs.Words.{is_uuid}
-use Rattle.aff_image.specs.Hashes.{Hashed, linear_of}
 use Rattle.aff_image.specs.Witnesses.{history_of, kept_chunks}
 use Rattle.aff_image.proofs.Counts.{few_kept}
-use Rattle.aff_image.proofs.Endings.{finished, made-end, reached-end, stopped, stopped_behind, walkable}
 use Rattle.aff_image.proofs.Growth.{reached-still}
 use Rattle.aff_image.proofs.Orders.{complete-from_contains}
 use Rattle.aff_image.proofs.Shapes.{HasShape, IsBelow, shaped}
 use Rattle.aff_store.specs.Written.{Written}
+use Rattle.aff_finish.specs.Finishing.{AreHashesOf, HasEnded, ended, finish_appends}
+use Rattle.aff_finish.specs.HashLines.{hash_lines}
+use Rattle.aff_finish.specs.declared.hashes.Hashes.{Hashes}
+use Rattle.aff_finish.proofs.Endings.{finished, has_ended, stopped, stopped_behind, walkable}
 use Rattle.aff_top.specs.Outcomes.{IsCutOff, IsRun, asked}
 use Rattle.aff_plan.specs.Order.{IsOrderOf}
 use Rattle.aff_top.specs.Stored.{AreAllStored, AreStored, AreStoredInPart, IsOwn, blocks_lost}
@@ -100,35 +99,40 @@ module _ (case : Option Content) (plan : Planned) (is_plan : IsPlan plan.size pl
       runs_here : AreGreatestRuns (history_spot plan.extents (history_of stored.readings)) entries
       runs_here = subst (λ h. AreGreatestRuns (history_spot plan.extents h) entries) (sym stored.history_is) runs
 
-      pub walks : IsWalkable tells (applied mid (end_appends uuid w.chunks entries)) uuid plan.size entries
-      walks =
-          walkable case tells (asked uuid plan) stored.readings is_plan stored.are entries ok complete runs_here fit (applied mid (end_appends uuid w.chunks entries))
-          (λ t. made-end uuid (kept_chunks stored.readings) entries empty mid (applied mid (end_appends uuid w.chunks entries)) (held_here t) (ap (λ c. applied mid (end_appends uuid c entries)) chunks_are))
+      module _ (small : plan.size ≤ MAX_SIZE) where
+        -- what finishing stands on
+        pub walks : IsWalkable tells (ended uuid w.chunks entries mid) uuid plan.size entries
+        walks =
+            subst (λ c. IsWalkable tells (ended uuid c entries mid) uuid plan.size entries) (sym chunks_are)
+            (walkable case tells (asked uuid plan) stored.readings is_plan stored.are ok small complete entries mid runs_here fit held_here)
 
-      -- the run stopped behind its stream
-      pub cut_off_behind : (new : Held) → (IsTrue tells → Reaches mid (end_appends uuid w.chunks entries) new) → IsCutOff case tells uuid plan new
-      cut_off_behind new reached =
-          let m = stopped_behind case tells (asked uuid plan) stored.readings is_plan stored.are entries ok complete runs_here fit new
-          (λ t. reached-end uuid (kept_chunks stored.readings) entries empty mid new (held_here t) (subst (λ c. Reaches mid (end_appends uuid c entries) new) chunks_are (reached t))) in
-          record { image = m.0; stopped = m.2 }
+        pub has_all : IsTrue tells → HasEnded (ended uuid w.chunks entries mid) uuid (length w.chunks) entries
+        has_all told =
+            subst (λ c. HasEnded (ended uuid c entries mid) uuid (length c) entries) (sym chunks_are)
+            (has_ended case tells (asked uuid plan) stored.readings is_plan stored.are ok small complete entries mid runs_here fit held_here told)
 
-      -- the run came to its end
-      pub is_run : (new : Held) (text report bytes : List ℕ) → text ≡ report ++ linear_lines bytes → report ≡ report_text uuid plan.size (length plan.extents) history
-          → (IsTrue tells → new ≡ applied mid (end_appends uuid w.chunks entries)) → (IsTrue tells → bytes ≡ volume_bytes new (volume_of uuid) plan.size) → IsRun case tells uuid plan before now new text
-      is_run new text report bytes is_text is_report made walked =
-          let hashed : Hashed = record { linear = linear_of bytes } in
-          let m =
-          finished case tells (asked uuid plan) stored.readings is_plan stored.are entries ok complete runs_here fit new hashed bytes
-          (λ t. made-end uuid (kept_chunks stored.readings) entries empty mid new (held_here t) (made t ∙ ap (λ c. applied mid (end_appends uuid c entries)) chunks_are)) refl walked in
-          let same = m.1 ∙ stored.history_is in
-          record {
-            image = m.0;
-            hashed = hashed;
-            bytes = bytes;
-            finished = m.2;
-            hashed_is = refl;
-            order = subst (λ h. IsOrderOf plan.extents (extents_of h)) (sym same) (subst (IsOrderOf plan.extents) (sym in_order) all.ordered);
-            own = subst (All IsOwn) (sym same) stored.own;
-            is_report = is_text ∙ ap (λ v. v ++ linear_lines bytes) (is_report ∙ ap (report_text uuid plan.size (length plan.extents)) (sym same));
-            counted = subst (λ h. RoseBy (blocks_lost plan.block h) before now) (sym same) stored.counted;
-          }
+        -- the run stopped behind its stream
+        pub cut_off_behind : (new : Held) → (IsTrue tells → Reaches mid (finish_appends uuid plan.size w.chunks entries mid) new) → IsCutOff case tells uuid plan new
+        cut_off_behind new reached =
+            let m = stopped_behind case tells (asked uuid plan) stored.readings is_plan stored.are ok small complete entries mid runs_here fit held_here new
+            (λ t. subst (λ c. Reaches mid (finish_appends uuid plan.size c entries mid) new) chunks_are (reached t)) in
+            record { image = m.0; stopped = m.2 }
+
+        -- the run came to its end
+        pub is_run : (new : Held) (text report : List ℕ) (h : Hashes) → text ≡ report ++ hash_lines h → report ≡ report_text uuid plan.size (length plan.extents) history
+            → (IsTrue tells → new ≡ applied mid (finish_appends uuid plan.size w.chunks entries mid)) → AreHashesOf tells (ended uuid w.chunks entries mid) uuid plan.size (length w.chunks) h
+            → IsRun case tells uuid plan before now new text
+        is_run new text report h is_text is_report made of =
+            let m = finished case tells (asked uuid plan) stored.readings is_plan stored.are ok small complete entries mid runs_here fit held_here new h
+            (λ t. made t ∙ ap (λ c. applied mid (finish_appends uuid plan.size c entries mid)) chunks_are)
+            (subst (λ c. AreHashesOf tells (ended uuid c entries mid) uuid plan.size (length c) h) chunks_are of) in
+            let same = m.1 ∙ stored.history_is in
+            record {
+              image = m.0;
+              hashes = h;
+              finished = m.2;
+              order = subst (λ v. IsOrderOf plan.extents (extents_of v)) (sym same) (subst (IsOrderOf plan.extents) (sym in_order) all.ordered);
+              own = subst (All IsOwn) (sym same) stored.own;
+              is_report = is_text ∙ ap (λ v. v ++ hash_lines h) (is_report ∙ ap (report_text uuid plan.size (length plan.extents)) (sym same));
+              counted = subst (λ v. RoseBy (blocks_lost plan.block v) before now) (sym same) stored.counted;
+            }

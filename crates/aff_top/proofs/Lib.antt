@@ -2,7 +2,6 @@ pub mod Acquiring
 pub mod Endings
 pub mod FirstPlaces
 pub mod FourWords
-pub mod Making
 pub mod NoScript
 pub mod OneDevice
 pub mod Ordered

@@ -1,118 +1,32 @@
 -- What is taken of an extent: its reading, and the chunks that it stores.
-use Rattle.std.proofs.Common.{◌≡◌, ℕ, zero, suc, ◌+◌, ◌<◌, List, [], ◌∷◌, ◌++◌, false, length, get_or, map, refl, sym, ap, subst, ◌∙◌, arith}
+use Rattle.std.proofs.Common.{◌≡◌, ℕ, List, ◌++◌, false, length, sym, ap, subst, ◌∙◌}
 use Rattle.std.specs.Prelude.{Bool, Option, IsTrue}
-use Rattle.std.specs.List.{range_with_len}
 use Rattle.aff_model.specs.declared.extent.Extent.{Extent}
-use Rattle.aff_model.specs.declared.publication.Place.{Place}
-use Rattle.aff_model.specs.declared.publication.Place.TheVariants.{Zero, Chunk, Nothing}
 use Rattle.aff_model.specs.Content.{Content}
 use Rattle.aff_model.specs.Held.{Held}
 use Rattle.aff_model.specs.History.{Part, Published, publication_of}
-use Rattle.aff_model.specs.Legal.{blocks_in, numbers_of}
-use Rattle.aff_model.specs.Plan.{chunk_count}
-use Rattle.aff_chunk.specs.Cut.{IsCutOf}
-use Rattle.aff_chunk.specs.declared.kind.Cut.{Cut}
-use Rattle.aff_chunk.specs.declared.kind.Cut.TheVariants.{Zero as CutZero, Stored as CutStored, Nothing as CutNothing}
+use Rattle.aff_model.specs.Legal.{blocks_in}
 use Rattle.aff_device.specs.Around.{RoseBy}
 use Rattle.aff_spec.specs.Appends.{applied, Reaches}
 use Rattle.aff_spec.specs.Bevvies.{more_appends}
-use Rattle.aff_spec.specs.Chunks.{chunk_at, chunks_from, stored_chunks}
-use Rattle.aff_image.specs.Sound.{IsPlaceIn, IsReading}
-use Rattle.aff_extent.specs.Drafts.{Drafted, IsDraft, stored_from}
-use Rattle.aff_store.specs.Pieces.{ArePlaces, IsPlaceOf, IsPieceOf, chosen_chunks}
+use Rattle.aff_image.specs.Sound.{IsReading}
+use Rattle.aff_extent.specs.Drafts.{Drafted, IsDraft}
+use Rattle.aff_store.specs.declared.claim.Claim.{Claim}
+use Rattle.aff_store.specs.Pieces.{IsPieceOf, chosen_chunks}
 use Rattle.aff_store.specs.Written.{Written}
+use Rattle.aff_store.proofs.Readings.{is_reading, chunks_are, places_from, are_places, row-places_from}
 use Rattle.aff_top.specs.Stored.{IsExtentStored, IsExtentStoredInPart}
-
--- the place of a chunk that was cut so
-place_in : (e : Extent) (bytes bad : List ℕ) (j : ℕ) (c : Cut) (p : Place) → IsPlaceOf c p → IsCutOf e bytes bad j c → IsPlaceIn e bytes bad j p
-place_in e bytes bad j CutZero Zero kept cut = cut
-place_in e bytes bad j CutZero (Chunk n) kept cut = absurd kept
-place_in e bytes bad j CutZero Nothing kept cut = absurd kept
-place_in e bytes bad j CutStored Zero kept cut = absurd kept
-place_in e bytes bad j CutStored (Chunk n) kept cut = cut
-place_in e bytes bad j CutStored Nothing kept cut = absurd kept
-place_in e bytes bad j CutNothing Zero kept cut = absurd kept
-place_in e bytes bad j CutNothing (Chunk n) kept cut = absurd kept
-place_in e bytes bad j CutNothing Nothing kept cut = cut
-
--- the chunk of one place
-chosen_one : (bytes : List ℕ) (j : ℕ) (c : Cut) (p : Place) (cuts : List Cut) (places : List Place) → IsPlaceOf c p
-    → chunks_from bytes (suc j) places ≡ map (chunk_at bytes) (stored_from (j + 1) cuts) → chunks_from bytes j (p ∷ places) ≡ map (chunk_at bytes) (stored_from j (c ∷ cuts))
-chosen_one bytes j CutZero Zero cuts places kept rest = rest
-chosen_one bytes j CutZero (Chunk n) cuts places kept rest = absurd kept
-chosen_one bytes j CutZero Nothing cuts places kept rest = absurd kept
-chosen_one bytes j CutStored Zero cuts places kept rest = absurd kept
-chosen_one bytes j CutStored (Chunk n) cuts places kept rest = ap (λ v. chunk_at bytes j ∷ v) rest
-chosen_one bytes j CutStored Nothing cuts places kept rest = absurd kept
-chosen_one bytes j CutNothing Zero cuts places kept rest = absurd kept
-chosen_one bytes j CutNothing (Chunk n) cuts places kept rest = absurd kept
-chosen_one bytes j CutNothing Nothing cuts places kept rest = rest
-
--- the chunks by their places are the chosen ones
-chosen_along : (bytes : List ℕ) (j : ℕ) (cuts : List Cut) (places : List Place) → length places ≡ length cuts
-    → ((k : ℕ) (c : Cut) (p : Place) → k < length cuts → IsPlaceOf (get_or cuts k c) (get_or places k p)) → chunks_from bytes j places ≡ map (chunk_at bytes) (stored_from j cuts)
-chosen_along bytes j [] [] same kept = refl
-chosen_along bytes j [] (p ∷ places) same kept = absurd (omega (arith, same))
-chosen_along bytes j (c ∷ cuts) [] same kept = absurd (omega (arith, same))
-chosen_along bytes j (c ∷ cuts) (p ∷ places) same kept =
-    let one : suc j ≡ j + 1 = omega arith in
-    chosen_one bytes j c p cuts places (kept 0 CutZero Zero (omega arith))
-    (chosen_along bytes (suc j) cuts places (omega (arith, same)) (λ k d q below. kept (suc k) d q (omega (arith, below))) ∙ ap (λ n. map (chunk_at bytes) (stored_from n cuts)) one)
-
--- places of some cuts, numbered from a first number on
-abbrev places_from : ℕ → List Cut → List Place
-places_from n [] = []
-places_from n (CutZero ∷ cuts) = Zero ∷ places_from n cuts
-places_from n (CutStored ∷ cuts) = Chunk n ∷ places_from (n + 1) cuts
-places_from n (CutNothing ∷ cuts) = Nothing ∷ places_from n cuts
-
-length-places_from : (n : ℕ) (cuts : List Cut) → length (places_from n cuts) ≡ length cuts
-length-places_from n [] = refl
-length-places_from n (CutZero ∷ cuts) = ap suc (length-places_from n cuts)
-length-places_from n (CutStored ∷ cuts) = ap suc (length-places_from (n + 1) cuts)
-length-places_from n (CutNothing ∷ cuts) = ap suc (length-places_from n cuts)
-
-kept-places_from : (n : ℕ) (cuts : List Cut) (k : ℕ) (c : Cut) (p : Place) → k < length cuts → IsPlaceOf (get_or cuts k c) (get_or (places_from n cuts) k p)
-kept-places_from n [] k c p below = absurd (omega (arith, below))
-kept-places_from n (CutZero ∷ cuts) zero c p below = tt
-kept-places_from n (CutStored ∷ cuts) zero c p below = tt
-kept-places_from n (CutNothing ∷ cuts) zero c p below = tt
-kept-places_from n (CutZero ∷ cuts) (suc k) c p below = kept-places_from n cuts k c p (omega (arith, below))
-kept-places_from n (CutStored ∷ cuts) (suc k) c p below = kept-places_from (n + 1) cuts k c p (omega (arith, below))
-kept-places_from n (CutNothing ∷ cuts) (suc k) c p below = kept-places_from n cuts k c p (omega (arith, below))
-
-row-places_from : (n : ℕ) (cuts : List Cut) → numbers_of (places_from n cuts) ≡ range_with_len n (length (numbers_of (places_from n cuts)))
-row-places_from n [] = refl
-row-places_from n (CutZero ∷ cuts) = row-places_from n cuts
-row-places_from n (CutStored ∷ cuts) = ap (λ v. n ∷ v) (row-places_from (n + 1) cuts)
-row-places_from n (CutNothing ∷ cuts) = row-places_from n cuts
-
-are_places : (n : ℕ) (cuts : List Cut) → ArePlaces n cuts (places_from n cuts)
-are_places n cuts = record { count = length-places_from n cuts; kept = kept-places_from n cuts; numbered = row-places_from n cuts }
-
--- an extent was read, and its chunks have these places
-module _ (case : Option Content) (block : ℕ) (e : Extent) (bytes : List ℕ) (d : Drafted) (draft : IsDraft case block e bytes d) (first : ℕ) (places : List Place) (placed : ArePlaces first d.cuts places) where
-  is_reading : IsReading case block e bytes d.unreadable places
-  is_reading = record {
-    len = draft.read.len;
-    fits = draft.read.fits;
-    known = draft.read.known;
-    zero = draft.read.zero;
-    count = placed.count ∙ draft.cut.count ∙ ap chunk_count draft.read.len;
-    placed = λ j p below.
-        let low : j < length d.cuts = omega (arith, below, placed.count) in
-        place_in e bytes d.unreadable j (get_or d.cuts j CutZero) (get_or places j p) (placed.kept j CutZero p low) (draft.cut.each e j CutZero (sym draft.read.len) low);
-  }
-
-  chunks_are : stored_chunks bytes places ≡ chosen_chunks bytes d.stored
-  chunks_are = chosen_along bytes 0 d.cuts places placed.count placed.kept ∙ ap (map (chunk_at bytes)) (sym draft.chosen)
 
 -- the piece of the extent
 module _ (case : Option Content) (block number : ℕ) (e : Extent) (bytes : List ℕ) (d : Drafted) (tells : Bool) (old held : Held) (w : Written) where
   abbrev extended : Written
   extended = record { urn = w.urn; chunks = w.chunks ++ chosen_chunks bytes d.stored; ended = false }
 
-  pub is_taken : {R : Type 0} (told : R → List ℕ) (p : Part R) (v : Written) (before now : ℕ) → IsDraft case block e bytes d → IsPieceOf number (length w.chunks) bytes d tells told p → v ≡ extended
+  -- it is worker 0's
+  abbrev own : Claim
+  own = record { extent = number; claimant = 0; swept = false }
+
+  pub is_taken : {R : Type 0} (told : R → List ℕ) (p : Part R) (v : Written) (before now : ℕ) → IsDraft case block e bytes d → IsPieceOf own (length w.chunks) bytes d tells told p → v ≡ extended
       → (IsTrue tells → held ≡ applied old (more_appends w.urn w.chunks (chosen_chunks bytes d.stored))) → RoseBy (blocks_in block d.unreadable) before now
       → IsExtentStored case block number e tells old held w v before now (publication_of p)
   is_taken told p v before now draft piece next appended counted =

@@ -13,13 +13,14 @@ use Rattle.aff_outside.specs.declared.folder.Folder.{Ghosts as FolderGhosts}
 use Rattle.aff_outside.specs.declared.text.Source.{Ghosts as SourceGhosts}
 use Rattle.aff_outside.specs.declared.text.Sink.{Ghosts as SinkGhosts}
 use Rattle.aff_device.specs.Around.{RoseBy}
-use Rattle.aff_spec.specs.Digests.{linear_lines}
 use Rattle.aff_plan.specs.Order.{IsOrderOf}
 use Rattle.aff_spec.specs.Report.{report_text}
 use Rattle.aff_spec.specs.Words.{IsAcquire, IsDeviceSize, uuid_of}
-use Rattle.aff_image.specs.Finished.{Asked, IsFinished, IsStopped}
-use Rattle.aff_image.specs.Hashes.{Hashed, linear_of}
+use Rattle.aff_image.specs.Asked.{Asked}
 use Rattle.aff_image.specs.Image.{Image}
+use Rattle.aff_finish.specs.Finished.{IsFinished, IsStopped}
+use Rattle.aff_finish.specs.HashLines.{hash_lines}
+use Rattle.aff_finish.specs.declared.hashes.Hashes.{Hashes}
 use Rattle.aff_top.specs.Stored.{IsOwn, blocks_lost}
 use Rattle.aff_top.specs.Texts.{IsRunText, IsTextRefused, text_line}
 use Rattle.aff_top.specs.declared.fault.Fault.{Fault}
@@ -98,17 +99,15 @@ abbrev pub asked : List ℕ → Planned → Asked
 asked uuid plan = record { uuid = uuid; plan = plan; workers = 1; examiners = 0 }
 
 -- A plan was acquired: the folder is the finished volume of an image of it, whose history has the extents by falling priority
--- and then by rising offset, each read by worker 0 for itself; the report is that of the history with the image's linear
--- hashes; and the device's count rose by at least the number of blocks that are unreadable.
+-- and then by rising offset, each read by worker 0 for itself; the report is that of the history, with the hashes that the
+-- volume states; and the device's count rose by at least the number of blocks that are unreadable.
 pub record IsRun (case : Option Content) (tells : Bool) (uuid : List ℕ) (plan : Planned) (before now : ℕ) (held : Held) (report : List ℕ) : Type 0 where
   pub image : Image
-  pub hashed : Hashed
-  pub bytes : List ℕ
-  pub finished : IsFinished case tells (asked uuid plan) image held hashed
-  pub hashed_is : hashed.linear ≡ linear_of bytes
+  pub hashes : Hashes
+  pub finished : IsFinished case tells (asked uuid plan) image held hashes
   pub order : IsOrderOf plan.extents (map (λ p. p.extent) image.history)
   pub own : All IsOwn image.history
-  pub is_report : report ≡ report_text uuid plan.size (length plan.extents) image.history ++ linear_lines bytes
+  pub is_report : report ≡ report_text uuid plan.size (length plan.extents) image.history ++ hash_lines hashes
   pub counted : RoseBy (blocks_lost plan.block image.history) before now
 
 -- the order of appends of an image of the plan had got so far

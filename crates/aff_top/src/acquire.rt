@@ -7,22 +7,20 @@ ghost use Rattle.aff_model.specs.Causes.{HasCause};
 ghost use Rattle.aff_model.specs.Pieces.{published};
 ghost use Rattle.aff_model.specs.Plan.{IsPlan};
 ghost use Rattle.aff_fields.specs.Entry.{FitsEntry};
-ghost use Rattle.aff_spec.specs.Acquired.{end_appends};
 ghost use Rattle.aff_spec.specs.Appends.{applied, Reaches};
-ghost use Rattle.aff_spec.specs.Digests.{digest_lines as lines_of_digests, linear_lines};
 ghost use Rattle.aff_spec.specs.Names.{stream_urn};
 ghost use Rattle.aff_spec.specs.Report.{report_text};
 ghost use Rattle.aff_spec.specs.Runs.{AreGreatestRuns, history_spot};
-ghost use Rattle.aff_spec.specs.Volumes.{volume_of, volume_bytes};
 ghost use Rattle.aff_spec.specs.Walks.{IsWalkable};
+ghost use Rattle.aff_finish.specs.Finishing.{AreHashesOf, HasEnded, ended, finish_appends};
+ghost use Rattle.aff_finish.specs.HashLines.{hash_lines};
 ghost use Rattle.aff_top.specs.Outcomes.{IsCutOff, IsRun};
 
 use crate::extents::store_extents;
 use crate::fault::{Fault, fault_of_folder};
-use crate::segments::append_map;
 use aff_fields::Entry;
-use aff_hash::Digests;
-use aff_linear::hash_image;
+use aff_finish::{Hashes, finish};
+use aff_hash::hex_line;
 use aff_map::entries_of;
 use aff_model::{Case, MAX_CHUNKS, MAX_SIZE, Piece, Plan};
 use aff_names::{Urn, Uuid};
@@ -40,7 +38,7 @@ struct Ending {
 }
 
 /// What is told of a history at its end.
-fn finish<R: Drop>(
+fn ending_of<R: Drop>(
     alloc: Global,
     uuid: &str,
     plan: &Plan,
@@ -57,19 +55,20 @@ fn finish<R: Drop>(
     Ok(Ending { entries, report })
 }
 
-/// The report with the lines of the digests behind it.
-fn with_digests(alloc: Global, report: String, digests: &Digests) -> Result<String, Fault>
-    ensures text { IfOk result (λ text. string_bytes text ≡ string_bytes report ++ lines_of_digests digests.now.md5 digests.now.sha1 digests.now.sha256 digests.now.sha512) }
+/// The report with the lines of the hashes behind it.
+fn with_hashes(alloc: Global, report: String, hashes: &Hashes) -> Result<String, Fault>
+    ensures text { IfOk result (λ text. string_bytes text ≡ string_bytes report ++ hash_lines hashes.now) }
     ensures fault { IfErr result (λ e. e ≡ Fault.Memory) }
 {
+    let mut lines = digest_lines(alloc, &hashes.linear)?;
+    let last = hex_line(alloc, "blockmap", &hashes.block_map)?;
+    lines.push_str(last.as_str())?;
     let mut text = report;
-    let lines = digest_lines(alloc, digests)?;
     text.push_str(lines.as_str())?;
     Ok(text)
 }
 
-/// Ends a volume whose extents are all stored: the stream, the map and its targets are appended, and the
-/// image is hashed as the folder has it. Answers the whole report.
+/// Finishes a volume whose extents are all stored. Answers the whole report.
 fn end_volume<F: Folder>(
     alloc: Global,
     uuid: &Uuid,
@@ -82,26 +81,21 @@ fn end_volume<F: Folder>(
     requires urn { stream.old.urn ≡ stream_urn uuid.now }
     requires going { stream.old.ended ≡ false }
     requires few { length stream.old.chunks ≤ MAX_CHUNKS }
-    requires walkable { IsWalkable F.tells (applied (F.held folder.old) (end_appends uuid.now stream.old.chunks ending.entries.items)) uuid.now plan.now.size ending.entries.items }
-    ensures ok { IfOk result (λ text. (hashed : List ℕ)
-        × (string_bytes text ≡ string_bytes ending.report ++ linear_lines hashed)
-        × (IsTrue F.tells → F.held folder.new ≡ applied (F.held folder.old) (end_appends uuid.now stream.old.chunks ending.entries.items))
-        × (IsTrue F.tells → hashed ≡ volume_bytes (F.held folder.new) (volume_of uuid.now) plan.now.size)) }
-    ensures part { OnErr result (IsTrue F.tells → Reaches (F.held folder.old) (end_appends uuid.now stream.old.chunks ending.entries.items) (F.held folder.new)) }
+    requires walkable { IsWalkable F.tells (ended uuid.now stream.old.chunks ending.entries.items (F.held folder.old)) uuid.now plan.now.size ending.entries.items }
+    requires there { IsTrue F.tells → HasEnded (ended uuid.now stream.old.chunks ending.entries.items (F.held folder.old)) uuid.now (length stream.old.chunks) ending.entries.items }
+    ensures ok { IfOk result (λ text. (hashes : Hashes)
+        × (string_bytes text ≡ string_bytes ending.report ++ hash_lines hashes)
+        × (IsTrue F.tells → F.held folder.new ≡ applied (F.held folder.old) (finish_appends uuid.now plan.now.size stream.old.chunks ending.entries.items (F.held folder.old)))
+        × AreHashesOf F.tells (ended uuid.now stream.old.chunks ending.entries.items (F.held folder.old)) uuid.now plan.now.size (length stream.old.chunks) hashes) }
+    ensures part { OnErr result (IsTrue F.tells → Reaches (F.held folder.old) (finish_appends uuid.now plan.now.size stream.old.chunks ending.entries.items (F.held folder.old)) (F.held folder.new)) }
     ensures folder { HasCause (F.folder_faults folder.old) (F.folder_faults folder.new) (IsErrOf result Fault.Folder) }
     ensures fault { IfErr result (λ e. (e ≡ Fault.Folder) ⊎ (e ≡ Fault.Memory)) }
 {
-    if let Err(error) = stream.finish(folder) {
-        return Err(fault_of_folder(error));
-    }
-    if let Err(fault) = append_map(alloc, folder, uuid, &ending.entries) {
-        return Err(fault);
-    }
-    let digests = match hash_image(alloc, folder, uuid.text(), &ending.entries, plan.size()) {
-        Ok(digests) => digests,
+    let hashes = match finish(alloc, folder, stream, plan, uuid, &ending.entries) {
+        Ok(hashes) => hashes,
         Err(error) => return Err(fault_of_folder(error)),
     };
-    with_digests(alloc, ending.report, &digests)
+    with_hashes(alloc, ending.report, &hashes)
 }
 
 /// The stream of a volume, with no chunk.
@@ -144,7 +138,7 @@ pub fn acquire<C: Case, F: Folder>(
         Ok(pieces) => pieces,
         Err(fault) => return Err(fault),
     };
-    let ending = match finish(alloc, uuid.text(), plan, &pieces) {
+    let ending = match ending_of(alloc, uuid.text(), plan, &pieces) {
         Ok(ending) => ending,
         Err(fault) => return Err(fault),
     };

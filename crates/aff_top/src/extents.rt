@@ -13,7 +13,7 @@ use aff_extent::ExtentReader;
 use aff_model::{Case, Extent, MAX_CHUNKS, Piece, Plan};
 use aff_outside::{Device, Folder};
 use aff_plan::order;
-use aff_store::Stream;
+use aff_store::{Claim, Stream};
 use std::alloc::Global;
 use std::sync::Arc;
 
@@ -46,7 +46,12 @@ fn store_extent<F: Folder>(
         Ok(draft) => draft,
         Err(_) => return Err(Fault::Memory),
     };
-    let piece = match stream.put(alloc, folder, number, draft, reader.bytes()) {
+    let claim = Claim {
+        extent: number,
+        claimant: 0,
+        swept: false,
+    };
+    let piece = match stream.put(alloc, folder, claim, draft, reader.bytes()) {
         Ok(piece) => piece,
         Err(error) => return Err(fault_of_folder(error)),
     };

@@ -8,7 +8,6 @@ mod extents;
 mod fault;
 mod plan;
 mod run;
-mod segments;
 mod source;
 mod tell;
 mod vacant;

@@ -116,8 +116,8 @@ fn acquire_words<C: Case, F: Folder, S: Source>(
 /// Does what the words ask for, over what is handed in, and answers the status. `acquire` and `acquire4k` read the plan
 /// from the source, acquire from the one device into the folder, which has to be empty, and write the report to the sink;
 /// a fault's line is written in its place. The words only say by which blocks main opens the device: the run goes by the blocks that the
-/// device has. The report ends with four digests of all bytes of the image, a line each: MD5, SHA-1, SHA-256 and
-/// SHA-512.
+/// device has. The report ends with the hashes of the volume, a line each: MD5, SHA-1, SHA-256 and SHA-512 of all bytes of
+/// the image, and the block map hash.
 pub fn run_words<C: Case, F: Folder, S: Source, K: Sink, G: Gate>(
     alloc: Global,
     words: &[&str],

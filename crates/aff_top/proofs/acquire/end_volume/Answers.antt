@@ -1,59 +1,42 @@
-use Rattle.std.proofs.Common.{sym, subst, ◌∙◌}
+use Rattle.std.proofs.Common.{◌≡◌, length, sym, ap, subst, ◌∙◌}
 use Rattle.std.proofs.lemmas.Result.{IfOk-weaker}
-use Rattle.std.specs.String.{string_bytes}
-use Rattle.aff_spec.specs.Acquired.{end_appends}
-use Rattle.aff_spec.specs.Appends.{applied}
-use Rattle.aff_spec.specs.Volumes.{volume_of, volume_bytes}
+use Rattle.aff_spec.specs.Appends.{applied, Reaches}
 use Rattle.aff_spec.specs.Walks.{IsWalkable}
-use Rattle.aff_top.proofs.Endings.{Reaches-ending, Reaches-map, Reaches-all, is_ended, IsWalkable-same, linear_told, on_err}
+use Rattle.aff_finish.specs.Finishing.{AreHashesOf, HasEnded, ended, finish_appends}
+use Rattle.aff_top.proofs.Endings.{Reaches-all, on_err}
 use Rattle.aff_top.proofs.acquire.end_volume.Goals as goal
+
+pub finish-requires-clause-walkable : goal.finish-requires-clause-walkable
+finish-requires-clause-walkable g c κs within =
+    subst (λ es. IsWalkable g.F.Folder.tells (ended c.args.uuid.now c.args.stream.now.chunks es (g.F.Folder.held c.args.folder.now)) c.args.uuid.now c.args.plan.now.size es)
+    (sym c.deref.ensures.value) c.requires.walkable
+
+pub finish-requires-clause-there : goal.finish-requires-clause-there
+finish-requires-clause-there g c κs within = λ t.
+    subst (λ es. HasEnded (ended c.args.uuid.now c.args.stream.now.chunks es (g.F.Folder.held c.args.folder.now)) c.args.uuid.now (length c.args.stream.now.chunks) es)
+    (sym c.deref.ensures.value) (c.requires.there t)
 
 pub returns-in-Err-clause-part : goal.returns-in-Err-clause-part
 returns-in-Err-clause-part g c = λ t.
-    Reaches-ending c.args.uuid.now c.args.stream.now.urn c.requires.urn c.args.stream.now.chunks c.args.ending.entries.items (g.F.Folder.held c.args.folder.now) (g.F.Folder.held c.finish.new.folder)
-    (c.in-Err.ensures.part t)
-
-pub returns-in-Err-append_map-clause-part : goal.returns-in-Err-append_map-clause-part
-returns-in-Err-append_map-clause-part g c = λ t.
-    Reaches-map c.args.uuid.now c.args.stream.now.urn c.requires.urn c.args.stream.now.chunks c.args.ending.entries.items (g.F.Folder.held c.args.folder.now) (g.F.Folder.held c.finish.new.folder)
-    c.deref.result.now c.deref.ensures.value (c.in_default.ensures.ok t) (g.F.Folder.held c.append_map.new.folder) (c.in-Err-append_map.ensures.part t)
-
-pub hash_image-requires-clause-image : goal.hash_image-requires-clause-image
-hash_image-requires-clause-image g c κs within =
-    let chunks = c.args.stream.now.chunks in
-    subst (λ u. IsWalkable g.F.Folder.tells (g.F.Folder.held c.append_map.new.folder) u c.size.result c.deref-2.result.now) (sym c.text.ensures.text)
-    (IsWalkable-same g.F.Folder.tells (applied (g.F.Folder.held c.args.folder.now) (end_appends c.args.uuid.now chunks c.args.ending.entries.items)) (g.F.Folder.held c.append_map.new.folder)
-    c.args.uuid.now c.args.plan.now.size c.size.result c.args.ending.entries.items c.deref-2.result.now
-    (λ t.
-    is_ended c.args.uuid.now c.args.stream.now.urn c.requires.urn chunks c.args.ending.entries.items (g.F.Folder.held c.args.folder.now) (g.F.Folder.held c.finish.new.folder)
-    c.deref.result.now c.deref.ensures.value (c.in_default.ensures.ok t) (g.F.Folder.held c.append_map.new.folder) (c.in_default-append_map.ensures.ok t))
-    c.size.ensures c.deref-2.ensures.value c.requires.walkable)
-
-pub returns-in-Err-hash_image-clause-part : goal.returns-in-Err-hash_image-clause-part
-returns-in-Err-hash_image-clause-part g c = λ t.
-    Reaches-all (g.F.Folder.held c.args.folder.now) (end_appends c.args.uuid.now c.args.stream.now.chunks c.args.ending.entries.items) (g.F.Folder.held c.hash_image.new.folder)
-    (c.hash_image.ensures.same t
-    ∙ is_ended c.args.uuid.now c.args.stream.now.urn c.requires.urn c.args.stream.now.chunks c.args.ending.entries.items (g.F.Folder.held c.args.folder.now) (g.F.Folder.held c.finish.new.folder)
-    c.deref.result.now c.deref.ensures.value (c.in_default.ensures.ok t) (g.F.Folder.held c.append_map.new.folder) (c.in_default-append_map.ensures.ok t))
+    let old = g.F.Folder.held c.args.folder.now in
+    subst (λ es. Reaches old (finish_appends c.args.uuid.now c.args.plan.now.size c.args.stream.now.chunks es old) (g.F.Folder.held c.finish.new.folder)) c.deref.ensures.value (c.in-Err.ensures.part t)
 
 pub returns-clause-ok : goal.returns-clause-ok
 returns-clause-ok g c =
-    let told = c.in-Ok.ensures.linear in
-    IfOk-weaker c.with_digests.result _ _
+    let old = g.F.Folder.held c.args.folder.now in
+    IfOk-weaker c.with_hashes.result _ _
     (λ text is. (
-      told.0,
-      linear_told (string_bytes text) (string_bytes c.args.ending.report) told.0 c.in-Ok.digests.md5 c.in-Ok.digests.sha1 c.in-Ok.digests.sha256 c.in-Ok.digests.sha512 is told.1.md5 told.1.sha1 told.1.sha256 told.1.sha512,
-      λ t.
-          c.hash_image.ensures.same t
-          ∙ is_ended c.args.uuid.now c.args.stream.now.urn c.requires.urn c.args.stream.now.chunks c.args.ending.entries.items (g.F.Folder.held c.args.folder.now) (g.F.Folder.held c.finish.new.folder)
-          c.deref.result.now c.deref.ensures.value (c.in_default.ensures.ok t) (g.F.Folder.held c.append_map.new.folder) (c.in_default-append_map.ensures.ok t),
-      λ t. told.2 t ∙ (λ i. volume_bytes (sym (c.hash_image.ensures.same t) i) (volume_of (c.text.ensures.text i)) (c.size.ensures i)),
+      c.in-Ok.hashes,
+      is,
+      λ t. c.in-Ok.ensures.ok t ∙ ap (λ es. applied old (finish_appends c.args.uuid.now c.args.plan.now.size c.args.stream.now.chunks es old)) c.deref.ensures.value,
+      subst (λ es. AreHashesOf g.F.Folder.tells (ended c.args.uuid.now c.args.stream.now.chunks es old) c.args.uuid.now c.args.plan.now.size (length c.args.stream.now.chunks) c.in-Ok.hashes)
+          c.deref.ensures.value c.in-Ok.ensures.hashes,
     ))
-    c.with_digests.ensures.text
+    c.with_hashes.ensures.text
 
 pub returns-clause-part : goal.returns-clause-part
-returns-clause-part g c = on_err c.with_digests.result (λ t.
-    Reaches-all (g.F.Folder.held c.args.folder.now) (end_appends c.args.uuid.now c.args.stream.now.chunks c.args.ending.entries.items) (g.F.Folder.held c.hash_image.new.folder)
-    (c.hash_image.ensures.same t
-    ∙ is_ended c.args.uuid.now c.args.stream.now.urn c.requires.urn c.args.stream.now.chunks c.args.ending.entries.items (g.F.Folder.held c.args.folder.now) (g.F.Folder.held c.finish.new.folder)
-    c.deref.result.now c.deref.ensures.value (c.in_default.ensures.ok t) (g.F.Folder.held c.append_map.new.folder) (c.in_default-append_map.ensures.ok t)))
+returns-clause-part g c =
+    let old = g.F.Folder.held c.args.folder.now in
+    on_err c.with_hashes.result (λ t.
+    Reaches-all old (finish_appends c.args.uuid.now c.args.plan.now.size c.args.stream.now.chunks c.args.ending.entries.items old) (g.F.Folder.held c.finish.new.folder)
+    (c.in-Ok.ensures.ok t ∙ ap (λ es. applied old (finish_appends c.args.uuid.now c.args.plan.now.size c.args.stream.now.chunks es old)) c.deref.ensures.value))

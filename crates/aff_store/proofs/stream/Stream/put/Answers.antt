@@ -34,7 +34,7 @@ returns-clause-piece g c =
     let chosen : c.deref-3.result.now ≡ c.args.draft.stored = c.deref-3.ensures.value ∙ ap (λ (v : Drafted). v.stored) d in
     let sums : c.deref-2.result.now ≡ chosen_sums c.args.bytes.now c.args.draft.stored = c.deref-2.ensures.value ∙ ap (λ (v : Drafted). v.sums) d ∙ c.requires.digests in
     record {
-      is = ap (λ b. record { extent = c.args.number; claimant = 0; swept = false; bad = b; places = c.in-Ok.places.items }) (ap (λ (v : Drafted). v.unreadable) d);
+      is = ap (λ b. record { extent = c.args.claim.extent; claimant = c.args.claim.claimant; swept = c.args.claim.swept; bad = b; places = c.in-Ok.places.items }) (ap (λ (v : Drafted). v.unreadable) d);
       placed = subst₂ (λ n v. ArePlaces n v c.in-Ok.places.items) (c.count.ensures c.requires.going) cuts c.in-Ok.ensures;
       digests = c.in-Ok-digests_of.ensures ∙ ap (map (λ s. s.sha256)) sums ∙ sha256_of_chosen c.args.bytes.now c.args.draft.stored;
       receipts = c.in-Ok-append_chosen.ensures.count ∙ ap length chosen;

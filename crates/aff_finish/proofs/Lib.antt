@@ -1,0 +1,10 @@
+pub mod Appending
+pub mod Digests
+pub mod Endings
+pub mod Facts
+pub mod Feeds
+pub mod Finishing
+pub mod Lengths
+pub mod Made
+pub mod Same
+pub mod Told

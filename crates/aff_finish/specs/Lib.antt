@@ -1,0 +1,9 @@
+pub mod BlockMap
+pub mod Container
+pub mod Finished
+pub mod Finishing
+pub mod HashLines
+pub mod Information
+pub mod Kept
+pub mod Laws
+pub mod Named
