@@ -125,7 +125,7 @@ fn table_of(alloc: Global, ranking: Ranking, workers: u32) -> Result<(Claims, Bo
 {
     let extents = ranking.len();
     let ranking = Arc::new(alloc, ranking)?;
-    let words = zeros(alloc, word_count(extents))?;
+    let words = free_words(alloc, word_count(extents))?;
     let limits = Limits {
         extents: extents as u64,
         workers: u64::from(workers),
@@ -140,7 +140,8 @@ fn table_of(alloc: Global, ranking: Ranking, workers: u32) -> Result<(Claims, Bo
     Ok((claims, BookSeat { seat }))
 }
 
-fn zeros(alloc: Global, count: usize) -> Result<Vec<u64>, AllocError>
+// The words of a table in which no extent is claimed.
+fn free_words(alloc: Global, count: usize) -> Result<Vec<u64>, AllocError>
     ensures { IfOk result (λ v. v.items ≡ replicate count 0) }
 {
     let words = vec![in alloc; 0u64; count]?;

@@ -2,6 +2,7 @@
 ghost use Rattle.std.specs.Prelude.{◌≡◌, ℕ, ◌+◌, ◌/◌, ◌%◌, ◌^◌, ◌<◌, ◌≤◌, [], length, All, IfSome, OnOk, OnErr, vec_len, vec_capacity};
 ghost use Rattle.aff_model.specs.Content.{IsBlock};
 ghost use Rattle.aff_model.specs.Legal.{Fits, blocks_in};
+ghost use Rattle.aff_outside.specs.Kept.{IsSameDevice};
 ghost use Rattle.aff_outside.specs.Seen.{IsZeroSector};
 ghost use Rattle.aff_device.specs.Around.{IsKnown, RoseBy};
 
@@ -36,10 +37,7 @@ pub fn read_extent(device: &mut dyn Device, at: u64, buf: &mut [u8], bad: &mut V
 
     // The device's count shows a failed reading for each block of unreadable sectors.
     ensures faults { RoseBy (blocks_in (device_block device.old) bad.new.items) (device_faults device.old) (device_faults device.new) }
-    ensures later { device_faults device.old ≤ device_faults device.new }
-    ensures content { device_content device.new ≡ device_content device.old }
-    ensures block { device_block device.new ≡ device_block device.old }
-    ensures size { device_size device.new ≡ device_size device.old }
+    ensures kept { IsSameDevice (λ d. device_content d) (λ d. device_block d) (λ d. device_size d) (λ d. device_faults d) device.old device.new }
 {
     // The size is a `u64`, and so is the end of each part.
     let _size = device.size();

@@ -2,6 +2,7 @@
 ghost use Rattle.std.specs.Prelude.{◌≡◌, ◌+◌, ◌-◌, ◌*◌, ◌/◌, ◌%◌, ◌^◌, ◌<◌, ◌≤◌, ◌++◌, false, length, replicate, IfSome, IsTrue, vec_len, vec_capacity};
 ghost use Rattle.std.specs.List.{range_with_len};
 ghost use Rattle.aff_model.specs.Content.{IsBlock, IsRead, Touches};
+ghost use Rattle.aff_outside.specs.Kept.{IsSameDevice};
 ghost use Rattle.aff_device.specs.Around.{IsPartRead, IsRange, RoseBy};
 
 use aff_model::SECTOR;
@@ -33,10 +34,7 @@ fn could_read(device: &mut dyn Device, at: u64, buf: &mut [u8]) -> bool
     ensures good { IsTrue result → IfSome (device_content device.old) (λ c. ¬ (Touches c.bad at (length buf.old))) }
     ensures weak { result ≡ false → IfSome (device_content device.old) (λ c. Touches c.weak at (length buf.old)) }
     ensures rose { result ≡ false → RoseBy 1 (device_faults device.old) (device_faults device.new) }
-    ensures later { device_faults device.old ≤ device_faults device.new }
-    ensures content { device_content device.new ≡ device_content device.old }
-    ensures block { device_block device.new ≡ device_block device.old }
-    ensures size { device_size device.new ≡ device_size device.old }
+    ensures kept { IsSameDevice (λ d. device_content d) (λ d. device_block d) (λ d. device_size d) (λ d. device_faults d) device.old device.new }
 {
     device.read_at(at, buf).is_ok()
 }
@@ -83,10 +81,7 @@ pub fn read_part(
     requires fits { start + SECTOR * first + length buf.old < 2 ^ 64 }
     ensures read { IsPartRead (device_content device.old) block start first buf.new bad.old.items bad.new.items (device_faults device.old) (device_faults device.new) }
     ensures room { vec_capacity bad.new ≡ vec_capacity bad.old }
-    ensures later { device_faults device.old ≤ device_faults device.new }
-    ensures content { device_content device.new ≡ device_content device.old }
-    ensures block { device_block device.new ≡ device_block device.old }
-    ensures size { device_size device.new ≡ device_size device.old }
+    ensures kept { IsSameDevice (λ d. device_content d) (λ d. device_block d) (λ d. device_size d) (λ d. device_faults d) device.old device.new }
 {
     let at = start + SECTOR * u64::from(first);
     if could_read(device, at, buf) {

@@ -3,6 +3,7 @@ ghost use Rattle.std.specs.Prelude.{◌≡◌, ◌+◌, ◌/◌, ◌%◌, ◌≤
 ghost use Rattle.aff_model.specs.Content.{IsBlock};
 ghost use Rattle.aff_model.specs.Legal.{blocks_in};
 ghost use Rattle.aff_model.specs.Plan.{IsExtent};
+ghost use Rattle.aff_outside.specs.Kept.{IsSameDevice};
 ghost use Rattle.aff_device.specs.Around.{RoseBy};
 ghost use Rattle.aff_chunk.specs.Cut.{AreCuts};
 ghost use Rattle.aff_hash.specs.Chosen.{chosen_sums};
@@ -65,10 +66,7 @@ impl ExtentReader {
         requires block { IsBlock (device_block device.old) }
         ensures draft { IfOk result (λ d. IsDraft (device_content device.old) (device_block device.old) extent.now self.new d) }
         ensures faults { IfOk result (λ d. RoseBy (blocks_in (device_block device.old) d.unreadable) (device_faults device.old) (device_faults device.new)) }
-        ensures content { device_content device.new ≡ device_content device.old }
-        ensures block { device_block device.new ≡ device_block device.old }
-        ensures size { device_size device.new ≡ device_size device.old }
-        ensures later { device_faults device.old ≤ device_faults device.new }
+        ensures kept { IsSameDevice (λ d. device_content d) (λ d. device_block d) (λ d. device_size d) (λ d. device_faults d) device.old device.new }
     {
         read_around(device, extent, &mut self.bytes, &mut self.unreadable)?;
         draft_of(self.alloc, &self.bytes, &self.unreadable)
@@ -117,10 +115,7 @@ fn read_around(
     requires block { IsBlock (device_block device.old) }
     ensures read { OnOk result (IsReadAround (device_content device.old) (device_block device.old) extent.now bytes.new.items unreadable.new.items) }
     ensures faults { OnOk result (RoseBy (blocks_in (device_block device.old) unreadable.new.items) (device_faults device.old) (device_faults device.new)) }
-    ensures content { device_content device.new ≡ device_content device.old }
-    ensures block { device_block device.new ≡ device_block device.old }
-    ensures size { device_size device.new ≡ device_size device.old }
-    ensures later { device_faults device.old ≤ device_faults device.new }
+    ensures kept { IsSameDevice (λ d. device_content d) (λ d. device_block d) (λ d. device_size d) (λ d. device_faults d) device.old device.new }
 {
     make_room(bytes, unreadable, extent.len)?;
     read_extent(device, extent.at, bytes.as_mut_slice(), unreadable);

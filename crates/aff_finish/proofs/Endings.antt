@@ -91,7 +91,7 @@ module _ (case : Option Content) (tells : Bool) (asked : Asked) (readings : List
     has_ended told =
         subst (λ g. HasEnded g asked.uuid (length chunks) entries) (sym (mid_is told))
         (record {
-          kept = all_kept (image_made asked.uuid chunks entries) (stream_urn asked.uuid) (length chunks) (subst (λ g. IsVolume asked.uuid image g) (mid_is told) (volume_is told)).blocks;
+          kept = all_kept (image_made asked.uuid chunks entries) (stream_urn asked.uuid) (length chunks) (subst (λ g. IsVolume asked.uuid image g) (mid_is told) (volume_is told)).readable.blocks;
           map_is = refl;
           map_there = map_there asked.uuid chunks entries;
           idx_is = refl;
@@ -123,9 +123,9 @@ module _ (case : Option Content) (tells : Bool) (asked : Asked) (readings : List
             segments = λ name.
                 subst (λ g. IsSome (get g name) ↔ Contains (finished_names asked.uuid (length chunks)) name) (sym (last_is told)) (all_segments asked.uuid chunks entries text name);
             readable = record {
-              cells = λ i. cell_alike last mid alike (volume_of asked.uuid) i ∙ v.cells i;
-              bytes = λ i. byte_alike last mid alike (volume_of asked.uuid) i ∙ v.bytes i;
-              blocks = blocks_alike mid last (λ urn x. sym (alike urn x)) (stream_urn asked.uuid) (length chunks) v.blocks;
+              cells = λ i. cell_alike last mid alike (volume_of asked.uuid) i ∙ v.readable.cells i;
+              bytes = λ i. byte_alike last mid alike (volume_of asked.uuid) i ∙ v.readable.bytes i;
+              blocks = blocks_alike mid last (λ urn x. sym (alike urn x)) (stream_urn asked.uuid) (length chunks) v.readable.blocks;
             };
             named =
                 is_named asked.uuid ok asked.plan.size (length chunks) small few hashes (volume_bytes mid (volume_of asked.uuid) asked.plan.size)

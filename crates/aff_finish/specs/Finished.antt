@@ -1,5 +1,5 @@
 -- How a run ends.
-use Rattle.std.specs.Prelude.{◌≡◌, ℕ, ◌↔◌, ◌⊎◌, Bool, List, [], ◌∷◌, ◌++◌, length, Option, Some, IsSome, IsTrue, Contains}
+use Rattle.std.specs.Prelude.{◌≡◌, ℕ, ◌↔◌, ◌⊎◌, Bool, List, [], ◌∷◌, ◌++◌, length, Option, IsSome, IsTrue, Contains}
 use Rattle.std.specs.FinMap.{empty, get}
 use Rattle.sha2.specs.Sha512.{sha512}
 use Rattle.aff_model.specs.Content.{Content}
@@ -9,14 +9,11 @@ use Rattle.aff_fields.specs.declared.entry.Entry.{Entry}
 use Rattle.aff_spec.specs.Acquired.{segment_names}
 use Rattle.aff_spec.specs.Appends.{Append, applied, Reaches}
 use Rattle.aff_spec.specs.Bevvies.{bevvy_count, written}
-use Rattle.aff_spec.specs.BlockHashes.{HasBlockHashes}
 use Rattle.aff_spec.specs.Names.{stream_urn, image_urn}
 use Rattle.aff_spec.specs.Runs.{AreGreatestRuns}
-use Rattle.aff_spec.specs.Symbols.{fill_of}
-use Rattle.aff_spec.specs.Volumes.{volume_of, volume_cell, volume_byte}
 use Rattle.aff_image.specs.Asked.{Asked}
-use Rattle.aff_image.specs.Image.{Image, IsImageBy, acquired_content, image_bytes, image_spot}
-use Rattle.aff_image.specs.Volume.{image_appends}
+use Rattle.aff_image.specs.Image.{Image, IsImageBy, image_bytes, image_spot}
+use Rattle.aff_image.specs.Volume.{IsReadable, image_appends}
 use Rattle.aff_info.specs.declared.info.Info.{Info}
 use Rattle.aff_finish.specs.BlockMap.{block_map_hash}
 use Rattle.aff_finish.specs.Container.{container_appends, version_name, description_name, information_name}
@@ -36,12 +33,6 @@ all_appends uuid m entries h = image_appends uuid m entries ++ container_appends
 -- the segments of a finished volume of n stored chunks
 abbrev pub finished_names : List ℕ → ℕ → List (List ℕ)
 finished_names uuid n = segment_names uuid n ++ version_name ∷ description_name ∷ information_name ∷ []
-
--- An image reads from a folder as what was acquired, as cell and as byte, and each stored chunk has its block hashes.
-pub record IsReadable (uuid : List ℕ) (m : Image) (held : Held) : Type 0 where
-  pub cells : (i : ℕ) → volume_cell held (volume_of uuid) i ≡ Some (acquired_content m i)
-  pub bytes : (i : ℕ) → volume_byte held (volume_of uuid) i ≡ Some (fill_of i (acquired_content m i))
-  pub blocks : HasBlockHashes held (stream_urn uuid) (length m.chunks)
 
 -- The folder is the whole volume of an image: made by its appends, with the greatest runs of its places as entries; with these
 -- segments and no other; its image can be read; its metadata name it, and no statement is left over; and the hashes that they

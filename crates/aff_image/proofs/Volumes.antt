@@ -96,13 +96,15 @@ module _ (case : Option Content) (workers : ℕ) (uuid : List ℕ) (m : Image) (
       runs = runs;
       made = refl;
       segments = volume_segments uuid m.chunks entries;
-      cells = λ i.
-          ap (spot_cell whole (volume_of uuid) i) (spot_at i)
-          ∙ spot_of_cell whole uuid ok has.targets i (image_spot m i) (acquired_content m i) (reads_at i);
-      bytes = λ i.
-          ap (spot_byte whole (volume_of uuid) i) (spot_at i)
-          ∙ spot_of_byte whole uuid ok has.targets i (image_spot m i) (acquired_content m i) (reads_at i);
-      blocks = volume_hashes uuid m.chunks entries few_bevvies whole_chunks;
+      readable = record {
+        cells = λ i.
+            ap (spot_cell whole (volume_of uuid) i) (spot_at i)
+            ∙ spot_of_cell whole uuid ok has.targets i (image_spot m i) (acquired_content m i) (reads_at i);
+        bytes = λ i.
+            ap (spot_byte whole (volume_of uuid) i) (spot_at i)
+            ∙ spot_of_byte whole uuid ok has.targets i (image_spot m i) (acquired_content m i) (reads_at i);
+        blocks = volume_hashes uuid m.chunks entries few_bevvies whole_chunks;
+      };
     },
     refl,
   )
@@ -130,4 +132,4 @@ module _ (case : Option Content) (workers : ℕ) (uuid : List ℕ) (m : Image) (
 
 -- the bytes of a volume are those of its image
 pub volume_bytes_are : (uuid : List ℕ) (m : Image) (held : Held) → IsVolume uuid m held → volume_bytes held (volume_of uuid) m.plan.size ≡ image_bytes m
-volume_bytes_are uuid m held is = λ j. map (λ i. unwrap_or (is.bytes i j) 0) (range_with_len 0 m.plan.size)
+volume_bytes_are uuid m held is = λ j. map (λ i. unwrap_or (is.readable.bytes i j) 0) (range_with_len 0 m.plan.size)

@@ -16,13 +16,17 @@ use Rattle.aff_image.specs.Image.{Image, acquired_content, image_spot}
 abbrev pub image_appends : List ℕ → Image → List Entry → List Append
 image_appends uuid m entries = volume_appends uuid m.chunks entries
 
+-- an image reads from a folder as what was acquired, as cell and as byte, and each stored chunk has its block hashes
+pub record IsReadable (uuid : List ℕ) (m : Image) (held : Held) : Type 0 where
+  pub cells : (i : ℕ) → volume_cell held (volume_of uuid) i ≡ Some (acquired_content m i)
+  pub bytes : (i : ℕ) → volume_byte held (volume_of uuid) i ≡ Some (fill_of i (acquired_content m i))
+  pub blocks : HasBlockHashes held (stream_urn uuid) (length m.chunks)
+
 -- the folder is the volume of an image: made by its appends, with the greatest runs of its places as entries; with these
--- segments and no other; it reads as the acquired content, as cell and as byte; and each stored chunk has its block hashes
+-- segments and no other; and the image can be read from it
 pub record IsVolume (uuid : List ℕ) (m : Image) (held : Held) : Type 0 where
   pub entries : List Entry
   pub runs : AreGreatestRuns (image_spot m) entries
   pub made : held ≡ applied empty (image_appends uuid m entries)
   pub segments : (name : List ℕ) → IsSome (get held name) ↔ Contains (segment_names uuid (length m.chunks)) name
-  pub cells : (i : ℕ) → volume_cell held (volume_of uuid) i ≡ Some (acquired_content m i)
-  pub bytes : (i : ℕ) → volume_byte held (volume_of uuid) i ≡ Some (fill_of i (acquired_content m i))
-  pub blocks : HasBlockHashes held (stream_urn uuid) (length m.chunks)
+  pub readable : IsReadable uuid m held

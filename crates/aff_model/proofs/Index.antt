@@ -31,7 +31,7 @@ place_of es index h k b =
     Contains-permutation _ _ k h.numbers
     (k, (let n = length-range_with_len 0 (length es) in omega arith), get_or-range_with_len 0 (length es) k k b ∙ zero-add k)
 
-range-IsDistinct : (n : ℕ) → IsDistinct nat_eq (range_with_len 0 n)
+pub range-IsDistinct : (n : ℕ) → IsDistinct nat_eq (range_with_len 0 n)
 range-IsDistinct n = IsDistinct-from_apart nat_eq _
     (λ i j d b l.
     let count = length-range_with_len 0 n in

@@ -23,7 +23,7 @@ impl Case for Brand {
 }
 
 /// One run: its plan, with the size and the block of its devices; its claim table and its number of workers; its
-/// published list; its volume's URN; and the folder's count of faults when the run's book was opened.
+/// published list; its volume's UUID; and the folder's count of faults when the run's book was opened.
 pub trait Named {
     ghost use Rattle.atomic_table.specs.Seated.{TableId};
     ghost use Rattle.logbook.specs.Pages.{Book};

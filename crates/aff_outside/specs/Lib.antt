@@ -1,3 +1,4 @@
 pub mod Disk
+pub mod Kept
 pub mod Outcomes
 pub mod Seen

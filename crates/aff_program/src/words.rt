@@ -4,7 +4,7 @@ use std::{env, io};
 
 /// What is shown on standard error where the words are none of the program's.
 pub const USAGE: &str =
-    "usage: imager acquire FOLDER UUID DEVICE\n       imager acquire4k FOLDER UUID DEVICE";
+    "usage: imager acquire FOLDER UUID DEVICE..\n       imager acquire4k FOLDER UUID DEVICE..";
 
 /// The words behind the program's own name; none where one of them is not UTF-8, since such words are none of the
 /// program's.

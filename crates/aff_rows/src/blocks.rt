@@ -3,7 +3,9 @@ use crate::fixture::{LARGE_WORDS, NONE, Ran, STREAM, WORDS, has, holds, maps, ru
 use aff_memory::FixedDevice;
 use aff_outside::Device;
 use std::alloc::Global;
+use std::sync::Wait;
 use std::test::Fail;
+use std::thread::Threads;
 
 /// The bytes of three blocks, block `k` of bytes `k + 1`.
 fn three_blocks(alloc: Global) -> Result<Vec<u8>, Fail> {
@@ -17,17 +19,22 @@ fn three_blocks(alloc: Global) -> Result<Vec<u8>, Fail> {
 }
 
 /// Runs at these words over three blocks, of which the second cannot be read.
-fn run_three(alloc: Global, words: &[&str], text: &[u8]) -> Result<Ran, Fail> {
+fn run_three<W: Alloc<A = Global> + Threads + Wait + Sync>(
+    rt: &W,
+    words: &[&str],
+    text: &[u8],
+) -> Result<Ran, Fail> {
+    let alloc = rt.alloc();
     let device = FixedDevice::blocks(three_blocks(alloc)?, vec![in alloc; 1u64]?);
     let mut devices: Vec<Box<dyn Device>> = Vec::new(alloc);
     devices.push(Box::new(alloc, device)?)?;
-    Ok(run_at(alloc, words, text, devices, NONE)?)
+    Ok(run_at(rt, words, text, devices, NONE)?)
 }
 
 #[test]
 fn one_bad_block(rt: HostRuntime) -> Result<(), Fail> {
     let alloc = rt.alloc();
-    let mut ran = run_three(alloc, &LARGE_WORDS, b"extent 0 12288 0\n")?;
+    let mut ran = run_three(&rt, &LARGE_WORDS, b"extent 0 12288 0\n")?;
     // All eight sectors of the block are named. The image is three blocks: `01`, `UNREADABLEDATA` from the letter of
     // offset 4,096 on, and `03`.
     let lines = [
@@ -47,9 +54,8 @@ fn one_bad_block(rt: HostRuntime) -> Result<(), Fail> {
 
 #[test]
 fn the_device_says_its_block(rt: HostRuntime) -> Result<(), Fail> {
-    let alloc = rt.alloc();
-    let large = run_three(alloc, &LARGE_WORDS, b"extent 0 12288 0\n")?;
-    let small = run_three(alloc, &WORDS, b"extent 0 12288 0\n")?;
+    let large = run_three(&rt, &LARGE_WORDS, b"extent 0 12288 0\n")?;
+    let small = run_three(&rt, &WORDS, b"extent 0 12288 0\n")?;
     assert!(rt; small.status == 0 && small.written.as_slice() == large.written.as_slice());
     Ok(())
 }

@@ -5,7 +5,9 @@ use crate::fixture::{LARGE_WORDS, NONE, Ran, WORDS, run_at, wrote};
 use aff_memory::MemorySource;
 use aff_outside::{Device, DeviceFailed, Source};
 use std::alloc::Global;
+use std::sync::Wait;
 use std::test::Fail;
+use std::thread::Threads;
 
 /// A device of so many bytes in such blocks, whose first reading fails and no other.
 #[derive(Drop)]
@@ -78,9 +80,14 @@ fn is_untouched(alloc: Global, ran: &mut Ran) -> Result<bool, Fail> {
 }
 
 /// Devices of such blocks and sizes are refused by this line at both commands, and nothing is touched.
-fn is_refused(alloc: Global, sizes: &[(u32, u64)], line: &str) -> Result<(), Fail> {
+fn is_refused<W: Alloc<A = Global> + Threads + Wait + Sync>(
+    rt: &W,
+    sizes: &[(u32, u64)],
+    line: &str,
+) -> Result<(), Fail> {
+    let alloc = rt.alloc();
     for words in [&WORDS, &LARGE_WORDS] {
-        let mut ran = run_at(alloc, words, TEXT, blanks(alloc, sizes)?, NONE)?;
+        let mut ran = run_at(rt, words, TEXT, blanks(alloc, sizes)?, NONE)?;
         wrote(&ran, 10, line)?;
         if !is_untouched(alloc, &mut ran)? {
             return Err("something was touched")?;
@@ -91,48 +98,67 @@ fn is_refused(alloc: Global, sizes: &[(u32, u64)], line: &str) -> Result<(), Fai
 
 #[test]
 fn a_size_of_no_whole_blocks(rt: HostRuntime) -> Result<(), Fail> {
-    let alloc = rt.alloc();
-    is_refused(alloc, &[(512, 513)], "error devices size 0 513\n")?;
-    is_refused(alloc, &[(512, 0)], "error devices size 0 0\n")?;
-    is_refused(alloc, &[(4_096, 4_608)], "error devices size 0 4608\n")?;
+    is_refused(&rt, &[(512, 513)], "error devices size 0 513\n")?;
+    is_refused(&rt, &[(512, 0)], "error devices size 0 0\n")?;
+    is_refused(&rt, &[(4_096, 4_608)], "error devices size 0 4608\n")?;
     // One sector more than 2^44 bytes.
     let line = "error devices size 0 17592186044928\n";
-    is_refused(alloc, &[(512, 17_592_186_044_928)], line)
+    is_refused(&rt, &[(512, 17_592_186_044_928)], line)
 }
 
 #[test]
 fn another_block(rt: HostRuntime) -> Result<(), Fail> {
-    let alloc = rt.alloc();
-    is_refused(alloc, &[(1_024, 4_096)], "error devices sector 0 1024\n")?;
+    is_refused(&rt, &[(1_024, 4_096)], "error devices sector 0 1024\n")?;
     // The block is told before the size.
-    is_refused(alloc, &[(0, 0)], "error devices sector 0 0\n")
+    is_refused(&rt, &[(0, 0)], "error devices sector 0 0\n")
 }
 
 #[test]
 fn another_number_of_devices(rt: HostRuntime) -> Result<(), Fail> {
-    let alloc = rt.alloc();
-    is_refused(alloc, &[], "error devices none\n")?;
-    let unbuilt = "error devices unbuilt\n";
-    is_refused(alloc, &[(512, 512), (512, 512)], unbuilt)?;
-    is_refused(alloc, &[(1_024, 1), (4_096, 0), (512, 513)], unbuilt)
+    is_refused(&rt, &[], "error devices none\n")?;
+    is_refused(&rt, &[(512, 512); 17], "error devices many 17\n")
+}
+
+#[test]
+fn devices_that_are_not_of_one_card(rt: HostRuntime) -> Result<(), Fail> {
+    is_refused(&rt, &[(512, 512), (512, 1_024)], "error devices differ 1\n")?;
+    is_refused(
+        &rt,
+        &[(512, 4_096), (4_096, 4_096)],
+        "error devices differ 1\n",
+    )?;
+    // Each device is looked at by itself before it is compared with the first.
+    is_refused(
+        &rt,
+        &[(512, 512), (512, 1_024), (512, 513)],
+        "error devices size 2 513\n",
+    )?;
+    is_refused(
+        &rt,
+        &[(512, 513), (1_024, 513)],
+        "error devices sector 1 1024\n",
+    )
 }
 
 /// Whether a run at these words ends with status 2, and touches neither the folder, nor the source, nor a device.
-fn is_usage(alloc: Global, words: &[&str]) -> Result<bool, Fail> {
-    let mut ran = run_at(alloc, words, TEXT, blanks(alloc, &[(1_024, 1)])?, NONE)?;
+fn is_usage<W: Alloc<A = Global> + Threads + Wait + Sync>(
+    rt: &W,
+    words: &[&str],
+) -> Result<bool, Fail> {
+    let alloc = rt.alloc();
+    let mut ran = run_at(rt, words, TEXT, blanks(alloc, &[(1_024, 1)])?, NONE)?;
     let untouched = is_untouched(alloc, &mut ran)?;
     Ok(ran.status == 2 && ran.written.as_slice() == b"error usage\n".as_slice() && untouched)
 }
 
 #[test]
 fn other_words(rt: HostRuntime) -> Result<(), Fail> {
-    let alloc = rt.alloc();
     let [command, folder, uuid, device] = WORDS;
-    assert!(rt; is_usage(alloc, &[])?);
-    assert!(rt; is_usage(alloc, &["acquire8k", folder, uuid, device])?);
-    assert!(rt; is_usage(alloc, &[command, folder, uuid])?);
-    assert!(rt; is_usage(alloc, &[command, folder, uuid, device, device])?);
-    assert!(rt; is_usage(alloc, &[command, "", uuid, device])?);
+    assert!(rt; is_usage(&rt, &[])?);
+    assert!(rt; is_usage(&rt, &["acquire8k", folder, uuid, device])?);
+    assert!(rt; is_usage(&rt, &[command, folder, uuid])?);
+    assert!(rt; is_usage(&rt, &[command, folder, uuid, device, ""])?);
+    assert!(rt; is_usage(&rt, &[command, "", uuid, device])?);
     Ok(())
 }
 
@@ -140,7 +166,7 @@ fn other_words(rt: HostRuntime) -> Result<(), Fail> {
 fn the_greatest_size(rt: HostRuntime) -> Result<(), Fail> {
     let alloc = rt.alloc();
     let devices = blanks(alloc, &[(4_096, 17_592_186_044_416)])?;
-    let ran = run_at(alloc, &LARGE_WORDS, b"extent 1 1 0\n", devices, NONE)?;
+    let ran = run_at(&rt, &LARGE_WORDS, b"extent 1 1 0\n", devices, NONE)?;
     // It is the text that is refused.
     wrote(&ran, 3, "error plan 1 sector\n")
 }

@@ -4,10 +4,12 @@ ghost use Rattle.std.specs.Prelude.{◌≡◌, IfOk, length};
 use aff_fields::{Entry, read_entries};
 use aff_memory::{FixedDevice, MemoryFolder, MemorySink, MemorySource};
 use aff_model::Untold;
-use aff_outside::{Device, OpenGate, read_segment};
+use aff_outside::{Device, Gate, OpenGate, read_segment};
 use aff_top::{End, run_words};
 use std::alloc::{AllocError, Global};
+use std::sync::Wait;
 use std::test::Fail;
+use std::thread::Threads;
 
 /// The words of a run into a folder from one device, at the command that opens it by blocks of 512 bytes.
 pub const WORDS: [&str; 4] = ["acquire", "F", "11111111-2222-4333-8444-555555555555", "D"];
@@ -56,48 +58,65 @@ pub struct Ran {
 }
 
 /// Runs over one card.
-pub fn run(
-    alloc: Global,
+pub fn run<W: Alloc<A = Global> + Threads + Wait + Sync>(
+    rt: &W,
     text: &[u8],
     card: FixedDevice,
     faults: Faults,
 ) -> Result<Ran, AllocError> {
-    run_over(alloc, text, Box::new(alloc, card)?, faults)
+    let alloc = rt.alloc();
+    run_over(rt, text, Box::new(alloc, card)?, faults)
 }
 
 /// Runs over one device.
-pub fn run_over(
-    alloc: Global,
+pub fn run_over<W: Alloc<A = Global> + Threads + Wait + Sync>(
+    rt: &W,
     text: &[u8],
     device: Box<dyn Device>,
     faults: Faults,
 ) -> Result<Ran, AllocError> {
+    let alloc = rt.alloc();
     let mut devices: Vec<Box<dyn Device>> = Vec::new(alloc);
     devices.push(device)?;
-    run_at(alloc, &WORDS, text, devices, faults)
+    run_at(rt, &WORDS, text, devices, faults)
 }
 
 /// Runs at these words over these devices, into an empty folder.
-pub fn run_at(
-    alloc: Global,
+pub fn run_at<W: Alloc<A = Global> + Threads + Wait + Sync>(
+    rt: &W,
     words: &[&str],
     text: &[u8],
     devices: Vec<Box<dyn Device>>,
     faults: Faults,
 ) -> Result<Ran, AllocError> {
+    let alloc = rt.alloc();
     let folder = MemoryFolder::new(alloc, vec![in alloc; faults.folder]?, Vec::new(alloc));
-    run_into(alloc, words, text, devices, folder, faults)
+    run_into(rt, words, text, devices, folder, faults)
 }
 
 /// Runs at these words over these devices, into a folder.
-pub fn run_into(
-    alloc: Global,
+pub fn run_into<W: Alloc<A = Global> + Threads + Wait + Sync>(
+    rt: &W,
     words: &[&str],
     text: &[u8],
     devices: Vec<Box<dyn Device>>,
     folder: MemoryFolder,
     faults: Faults,
 ) -> Result<Ran, AllocError> {
+    run_by_gate(rt, words, text, devices, folder, faults, &OpenGate)
+}
+
+/// Runs at these words over these devices, into a folder, with a gate that is told of each step.
+pub fn run_by_gate<W: Alloc<A = Global> + Threads + Wait + Sync, G: Gate>(
+    rt: &W,
+    words: &[&str],
+    text: &[u8],
+    devices: Vec<Box<dyn Device>>,
+    folder: MemoryFolder,
+    faults: Faults,
+    gate: &G,
+) -> Result<Ran, AllocError> {
+    let alloc = rt.alloc();
     let mut source = MemorySource::new(text.to_vec(alloc)?, vec![in alloc; faults.source]?);
     let mut sink = MemorySink::new(alloc, vec![in alloc; faults.sink]?);
     let End {
@@ -105,15 +124,15 @@ pub fn run_into(
         devices,
         folder,
         ..
-    } = run_words::<Untold, _, _, _, _>(
-        alloc,
+    } = run_words::<Untold, _, _, _, _, _>(
+        rt,
         words,
         devices,
         Vec::new(alloc),
         folder,
         &mut source,
         &mut sink,
-        &OpenGate,
+        gate,
     );
     let written = sink.written().to_vec(alloc)?;
     Ok(Ran {

@@ -12,7 +12,7 @@ fn an_occupied_folder_stays_as_it_is(rt: HostRuntime) -> Result<(), Fail> {
     let mut devices: Vec<Box<dyn Device>> = Vec::new(alloc);
     devices.push(Box::new(alloc, card(alloc, 1)?)?)?;
     // The text is that of no plan, and is not read.
-    let ran = run_into(alloc, &WORDS, b"x", devices, folder, NONE)?;
+    let ran = run_into(&rt, &WORDS, b"x", devices, folder, NONE)?;
     assert_eq!(rt; ran.folder.calls(), 2);
     wrote(&ran, 8, "error occupied\n")
 }

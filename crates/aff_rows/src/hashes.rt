@@ -6,7 +6,7 @@ use std::test::Fail;
 #[test]
 fn one_sector_of_two(rt: HostRuntime) -> Result<(), Fail> {
     let alloc = rt.alloc();
-    let ran = run(alloc, b"extent 0 512 0\n", card(alloc, 2)?, NONE)?;
+    let ran = run(&rt, b"extent 0 512 0\n", card(alloc, 2)?, NONE)?;
     has(
         &ran,
         &[
@@ -21,7 +21,7 @@ fn one_sector_of_two(rt: HostRuntime) -> Result<(), Fail> {
 #[test]
 fn block_hashes_are_those_of_the_padded_chunk(rt: HostRuntime) -> Result<(), Fail> {
     let alloc = rt.alloc();
-    let mut ran = run(alloc, b"extent 0 512 0\n", card(alloc, 2)?, NONE)?;
+    let mut ran = run(&rt, b"extent 0 512 0\n", card(alloc, 2)?, NONE)?;
     let folder = &mut ran.folder;
     let md5 = segment(alloc, folder, STREAM, "00000000.blockHash.md5")?;
     let expected = b"\xc0\x26\xf3\xa3\xa4\x2a\x7b\xee\x78\xf6\x35\x44\x00\x4d\xf0\x09";
@@ -36,7 +36,7 @@ fn block_hashes_are_those_of_the_padded_chunk(rt: HostRuntime) -> Result<(), Fai
 #[test]
 fn no_extent(rt: HostRuntime) -> Result<(), Fail> {
     let alloc = rt.alloc();
-    let ran = run(alloc, b"", card(alloc, 1)?, NONE)?;
+    let ran = run(&rt, b"", card(alloc, 1)?, NONE)?;
     has(&ran, &["md5 3df800501e62fab2ba2690ea81f23619"])
 }
 
@@ -44,7 +44,7 @@ fn no_extent(rt: HostRuntime) -> Result<(), Fail> {
 fn an_unreadable_sector_is_hashed_as_it_is_printed(rt: HostRuntime) -> Result<(), Fail> {
     let alloc = rt.alloc();
     let device = FixedDevice::new(sectors(alloc, 3)?, vec![in alloc; 1u64]?);
-    let ran = run(alloc, b"extent 0 1536 0\n", device, NONE)?;
+    let ran = run(&rt, b"extent 0 1536 0\n", device, NONE)?;
     has(&ran, &["md5 5311f764c393a50bf5357d8f623601b2"])
 }
 
@@ -53,9 +53,9 @@ fn the_order_of_the_plan_changes_no_hash(rt: HostRuntime) -> Result<(), Fail> {
     let alloc = rt.alloc();
     let whole = "md5 0a04f7d87dcc0aa10db6cd925c811b97";
     let text = b"extent 512 512 9\nextent 0 512 0\n";
-    has(&run(alloc, text, card(alloc, 2)?, NONE)?, &[whole])?;
+    has(&run(&rt, text, card(alloc, 2)?, NONE)?, &[whole])?;
     has(
-        &run(alloc, b"extent 0 1024 0\n", card(alloc, 2)?, NONE)?,
+        &run(&rt, b"extent 0 1024 0\n", card(alloc, 2)?, NONE)?,
         &[whole],
     )
 }
@@ -65,7 +65,7 @@ fn a_second_bevvy(rt: HostRuntime) -> Result<(), Fail> {
     let alloc = rt.alloc();
     let device = FixedDevice::new(vec![in alloc; 1u8; 33_587_200]?, Vec::new(alloc));
     let text = b"extent 0 16777216 0\nextent 16777216 16777216 0\nextent 33554432 32768 0\n";
-    let mut ran = run(alloc, text, device, NONE)?;
+    let mut ran = run(&rt, text, device, NONE)?;
     let lines = [
         "publication 3 2 0 own - c1024+1",
         "md5 052d2c91a9bda1241cdd92fd33443521",

@@ -22,3 +22,5 @@ mod plans;
 mod tests;
 #[cfg(test)]
 mod unreadable;
+#[cfg(test)]
+mod workers;

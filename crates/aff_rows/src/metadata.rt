@@ -32,7 +32,7 @@ pub fn info(alloc: Global, folder: &mut MemoryFolder) -> Result<InfoRead, Fail> 
 #[test]
 fn one_sector(rt: HostRuntime) -> Result<(), Fail> {
     let alloc = rt.alloc();
-    let mut ran = run(alloc, b"extent 0 512 0\n", card(alloc, 1)?, NONE)?;
+    let mut ran = run(&rt, b"extent 0 512 0\n", card(alloc, 1)?, NONE)?;
     let found = info(alloc, &mut ran.folder)?;
     assert!(rt; found.aside.is_empty());
     let volume = "aff4://11111111-2222-4333-8444-555555555555";
@@ -61,7 +61,7 @@ fn one_sector(rt: HostRuntime) -> Result<(), Fail> {
 #[test]
 fn an_empty_plan(rt: HostRuntime) -> Result<(), Fail> {
     let alloc = rt.alloc();
-    let mut ran = run(alloc, b"", card(alloc, 1)?, NONE)?;
+    let mut ran = run(&rt, b"", card(alloc, 1)?, NONE)?;
     let info = info(alloc, &mut ran.folder)?.info;
     assert_eq!(rt; info.stream_size, 0);
     assert_eq!(rt; info.image_size, 512);
@@ -74,7 +74,7 @@ fn a_chunk_of_bad_sectors(rt: HostRuntime) -> Result<(), Fail> {
     let alloc = rt.alloc();
     let bad: Vec<u64> = (64..128).collect(alloc)?;
     let device = FixedDevice::new(vec![in alloc; 7u8; 98_304]?, bad);
-    let mut ran = run(alloc, b"extent 0 98304 0\n", device, NONE)?;
+    let mut ran = run(&rt, b"extent 0 98304 0\n", device, NONE)?;
     let info = info(alloc, &mut ran.folder)?.info;
     // The stream has two chunks of the three.
     assert_eq!(rt; info.stream_size, 65_536);

@@ -3,14 +3,16 @@ use crate::fixture::{LARGE_WORDS, NONE, Ran, WORDS, card, has, run, run_at, wrot
 use aff_memory::FixedDevice;
 use aff_outside::Device;
 use std::alloc::Global;
+use std::sync::Wait;
 use std::test::Fail;
+use std::thread::Threads;
 
 #[test]
 fn priority_goes_before_place(rt: HostRuntime) -> Result<(), Fail> {
     let alloc = rt.alloc();
     let text = b"extent 0 512 0\nextent 1024 512 9\nextent 512 512 9\n";
     has(
-        &run(alloc, text, card(alloc, 3)?, NONE)?,
+        &run(&rt, text, card(alloc, 3)?, NONE)?,
         &[
             "publication 1 2 0 own - c0+1",
             "publication 2 1 0 own - c1+1",
@@ -23,11 +25,17 @@ fn priority_goes_before_place(rt: HostRuntime) -> Result<(), Fail> {
 fn comments_and_empty_lines_are_skipped(rt: HostRuntime) -> Result<(), Fail> {
     let alloc = rt.alloc();
     let text = b"# the boot sector\n\nextent 0 512 0";
-    has(&run(alloc, text, card(alloc, 1)?, NONE)?, &["extents 1"])
+    has(&run(&rt, text, card(alloc, 1)?, NONE)?, &["extents 1"])
 }
 
 /// A run over 24 sectors in such blocks.
-fn run_by(alloc: Global, words: &[&str], text: &[u8], large: bool) -> Result<Ran, Fail> {
+fn run_by<W: Alloc<A = Global> + Threads + Wait + Sync>(
+    rt: &W,
+    words: &[&str],
+    text: &[u8],
+    large: bool,
+) -> Result<Ran, Fail> {
+    let alloc = rt.alloc();
     let bytes = vec![in alloc; 7u8; 12_288]?;
     let none = Vec::new(alloc);
     let device = if large {
@@ -37,17 +45,17 @@ fn run_by(alloc: Global, words: &[&str], text: &[u8], large: bool) -> Result<Ran
     };
     let mut devices: Vec<Box<dyn Device>> = Vec::new(alloc);
     devices.push(Box::new(alloc, device)?)?;
-    Ok(run_at(alloc, words, text, devices, NONE)?)
+    Ok(run_at(rt, words, text, devices, NONE)?)
 }
 
 /// A text is refused by a line over 24 sectors, and the folder was looked into and no more.
-fn is_refused(alloc: Global, text: &[u8], line: &str, large: bool) -> Result<(), Fail> {
-    let ran = run_by(
-        alloc,
-        if large { &LARGE_WORDS } else { &WORDS },
-        text,
-        large,
-    )?;
+fn is_refused<W: Alloc<A = Global> + Threads + Wait + Sync>(
+    rt: &W,
+    text: &[u8],
+    line: &str,
+    large: bool,
+) -> Result<(), Fail> {
+    let ran = run_by(rt, if large { &LARGE_WORDS } else { &WORDS }, text, large)?;
     if ran.folder.calls() != 1 {
         return Err("the folder was called")?;
     }
@@ -56,7 +64,6 @@ fn is_refused(alloc: Global, text: &[u8], line: &str, large: bool) -> Result<(),
 
 #[test]
 fn lines_that_are_no_extent(rt: HostRuntime) -> Result<(), Fail> {
-    let alloc = rt.alloc();
     let cases: [(&[u8], &str); 6] = [
         (b"extent  0 512 0\n", "error plan 1 shape\n"),
         (
@@ -72,14 +79,13 @@ fn lines_that_are_no_extent(rt: HostRuntime) -> Result<(), Fail> {
         (b"session\r\n", "error plan 1 shape\n"),
     ];
     for (text, line) in cases {
-        is_refused(alloc, text, line, false)?;
+        is_refused(&rt, text, line, false)?;
     }
     Ok(())
 }
 
 #[test]
 fn extents_that_no_plan_has(rt: HostRuntime) -> Result<(), Fail> {
-    let alloc = rt.alloc();
     let cases: [(&[u8], &str); 6] = [
         (b"extent 0 513 0\n", "error plan 1 sector\n"),
         (b"extent 0 67109376 0\n", "error plan 1 toolong\n"),
@@ -96,29 +102,23 @@ fn extents_that_no_plan_has(rt: HostRuntime) -> Result<(), Fail> {
         ),
     ];
     for (text, line) in cases {
-        is_refused(alloc, text, line, false)?;
+        is_refused(&rt, text, line, false)?;
     }
     Ok(())
 }
 
 #[test]
 fn an_extent_of_part_of_a_block(rt: HostRuntime) -> Result<(), Fail> {
-    let alloc = rt.alloc();
-    is_refused(alloc, b"extent 0 512 0\n", "error plan 1 sector\n", true)?;
+    is_refused(&rt, b"extent 0 512 0\n", "error plan 1 sector\n", true)?;
     is_refused(
-        alloc,
+        &rt,
         b"#\nextent 512 4096 0\n",
         "error plan 2 sector\n",
         true,
     )?;
+    is_refused(&rt, b"extent 8192 8192 0\n", "error plan 1 pastend\n", true)?;
     is_refused(
-        alloc,
-        b"extent 8192 8192 0\n",
-        "error plan 1 pastend\n",
-        true,
-    )?;
-    is_refused(
-        alloc,
+        &rt,
         b"extent 0 67112960 0\n",
         "error plan 1 toolong\n",
         true,
@@ -127,9 +127,8 @@ fn an_extent_of_part_of_a_block(rt: HostRuntime) -> Result<(), Fail> {
 
 #[test]
 fn a_script_is_refused_behind_the_plan(rt: HostRuntime) -> Result<(), Fail> {
-    let alloc = rt.alloc();
     let text = b"extent 0 512 0\nsession\nread 0 1\nsession\n";
-    is_refused(alloc, text, "error script 2 shape\n", false)?;
+    is_refused(&rt, text, "error script 2 shape\n", false)?;
     let text = b"extent 0 513 0\nsession\n";
-    is_refused(alloc, text, "error plan 1 sector\n", false)
+    is_refused(&rt, text, "error plan 1 sector\n", false)
 }

@@ -1,5 +1,5 @@
 -- Volumes: what the image of a folder reads as.
-use Rattle.std.specs.Prelude.{ℕ, ◌==◌, List, ◌++◌, Option, None, Some, slice_get, codes, unwrap_or, map, if◌then◌else◌}
+use Rattle.std.specs.Prelude.{ℕ, List, ◌++◌, Option, None, Some, slice_get, codes, unwrap_or, map, if◌then◌else◌}
 use Rattle.std.specs.Option.{option_map, option_and_then}
 use Rattle.std.specs.Str.{bytes_eq}
 use Rattle.std.specs.List.{range_with_len}

@@ -1,11 +1,6 @@
-pub mod Acquiring
 pub mod Endings
 pub mod FirstPlaces
-pub mod FourWords
+pub mod Fitting
 pub mod NoScript
-pub mod OneDevice
-pub mod Ordered
 pub mod Outcome
 pub mod Segmentless
-pub mod Storing
-pub mod Taking

@@ -1,10 +1,20 @@
 -- How an answer and what is told of it are the outcome of a run.
-use Rattle.std.proofs.Common.{◌≡◌, ◌⊎◌, ◌≤◌, ℕ, List, [], refl, inl, inr, sym, subst, ap, arith}
-use Rattle.std.specs.Prelude.{Result, Ok, Err, String}
+use Rattle.std.proofs.Common.{◌≡◌, ◌⊎◌, ◌≤◌, ℕ, List, [], ◌++◌, length, refl, inl, inr, sym, subst, ap, arith}
+use Rattle.std.specs.Prelude.{Bool, Option, Result, Ok, Err, String, IfOk, IfErr, IsErrOf}
 use Rattle.std.specs.String.{string_bytes}
-use Rattle.std.specs.Io.KnownBytes.{Appends}
+use Rattle.std.specs.Io.KnownBytes.{Appends, IsAtEnd}
 use Rattle.aff_model.specs.Causes.{Rose}
-use Rattle.aff_top.specs.Outcomes.{Request, Facts, Output, Leaves, memory, Writes, IsBegun, IsWrittenInPart, IsResult, HaveNotFallen, IsOccupied, IsPartlyDone, IsAccepted, IsTold, IsOutcome, IsUntouched, status_at, code_of, line_of, text_of}
+use Rattle.aff_model.specs.Content.{Content}
+use Rattle.aff_model.specs.Held.{Held}
+use Rattle.aff_model.specs.History.{Published}
+use Rattle.aff_model.specs.Plan.{Planned}
+use Rattle.aff_spec.specs.Report.{report_text}
+use Rattle.aff_image.specs.Asked.{Asked}
+use Rattle.aff_finish.specs.HashLines.{hash_lines}
+use Rattle.aff_finish.specs.declared.hashes.Hashes.{Hashes}
+use Rattle.aff_command.specs.CommandLine.{uuid_of}
+use Rattle.aff_run.specs.Ends.{IsAcquired, IsCutOff, asked}
+use Rattle.aff_top.specs.Outcomes.{Request, Facts, Output, Leaves, memory, Writes, IsBegun, IsWrittenInPart, IsResult, HaveNotFallen, IsOccupied, IsPartlyDone, IsAccepted, IsTold, IsOutcome, IsUntouched, IsFaultOf, IsReady, IsDone, IsRun, Says, status_at, code_of, line_of}
 use Rattle.aff_top.specs.Texts.{IsRefusedFrom}
 use Rattle.aff_top.specs.declared.fault.Fault.{Fault}
 use Rattle.aff_top.specs.declared.fault.Fault.TheVariants.{Usage, Devices, Occupied, Source, Text, Folder, Memory}
@@ -49,11 +59,6 @@ outcome_of (Err fault) ask old new before after status answer told = elim told [
 pub rose_from : (a b c : ℕ) → a ≤ b → Rose b c → Rose a c
 rose_from a b c later rose = omega (arith, later, rose)
 
--- what is to be shown of a fault
-abbrev pub IsFaultOf : {F S D : Type 0} → Fault → Request → Facts F S D → Facts F S D → Type 0
-IsFaultOf fault ask old new =
-    Leaves (status_at (code_of fault)) ask old new (line_of fault) × (line_of fault ≡ text_of (status_at (code_of fault)) old.devices (line_of fault)) × HaveNotFallen old new
-
 -- the folder was not taken
 pub folder_refused : {F S D : Type 0} (ask : Request) (old new : Facts F S D) (fault : Fault) → IsAccepted ask old → IsUntouched ask old new → new.source ≡ old.source → HaveNotFallen old new
     → (fault ≡ Folder → Rose old.folder_faults new.folder_faults) → (fault ≡ Occupied → IsOccupied ask old) → (fault ≡ Occupied) ⊎ ((fault ≡ Folder) ⊎ (fault ≡ Memory))
@@ -76,11 +81,40 @@ plan_refused ask old new fault begun still later rose which = elim which [
       ((begun, record { fit = begun.taken.devices; fault = refused.why; says = refl; text = refused.refused }, still), refl, later)
 ]
 
--- the plan was not acquired whole
-pub run_refused : {F S D : Type 0} (ask : Request) (old new : Facts F S D) (fault : Fault) → IsBegun ask old → IsPartlyDone ask old new → HaveNotFallen old new
-    → (fault ≡ Folder → Rose old.folder_faults new.folder_faults) → (fault ≡ Folder) ⊎ (fault ≡ Memory)
-    → IsFaultOf fault ask old new
-run_refused ask old new fault begun part later rose which = elim which [
-  | inl is ↦ subst (λ f. IsFaultOf f ask old new) (sym is) ((begun.taken, rose is, inr (begun, part)), refl, later)
-  | inr is ↦ subst (λ f. IsFaultOf f ask old new) (sym is) (inr (inl part), refl, later)
-]
+-- what is said of a run that is done
+pub says_done : {A : Type 0} (case : Option Content) (tells : Bool) (ask : Asked) (held : Held) (history : List Published) (hashes : Hashes) → IsAcquired case tells ask held history hashes
+    → (r : Result (String A) Fault) → IfOk r (λ text. string_bytes text ≡ report_text ask.uuid ask.plan.size (length ask.plan.extents) history ++ hash_lines hashes) → IfErr r (λ e. e ≡ Memory)
+    → Says case tells ask held r
+says_done case tells ask held history hashes done (Ok text) is none = record { history = history; hashes = hashes; acquired = done; is_report = is }
+says_done {A} case tells ask held history hashes done (Err e) is none =
+    subst (λ f. Says {A = A} case tells ask held (Err f)) (sym none) (inr (_, record { history = history; hashes = hashes; acquired = done; is_report = refl }))
+
+-- the answer of a run that could begin
+module _ {F S D : Type 0} (ask : Request) (old mid new : Facts F S D) (uuid : List ℕ) (plan : Planned) (workers : ℕ) (ready : IsReady ask old mid uuid plan) (count : workers ≡ length old.devices)
+    (left : new.left ≡ mid.left) (source : mid.source_faults ≤ new.source_faults) (folder : mid.folder_faults ≤ new.folder_faults) where
+  later : HaveNotFallen old new
+  later = record { folder = omega (arith, ready.later.folder, folder); source = omega (arith, ready.later.source, source) }
+
+  same : asked uuid plan workers ≡ asked (uuid_of ask.words) plan (length old.devices)
+  same = λ i. asked (ready.named i) plan (count i)
+
+  done : (report : List ℕ) → IsRun ask.case ask.tells (asked uuid plan workers) new.held report → IsDone ask old new report
+  done report run = record {
+    plan = plan;
+    planned = ready.planned;
+    whole = subst IsAtEnd (sym left) ready.whole;
+    run = subst (λ a. IsRun ask.case ask.tells a new.held report) same run;
+  }
+
+  part : IsCutOff ask.case ask.tells (asked uuid plan workers) new.held → IsPartlyDone ask old new
+  part cut = record { plan = plan; planned = ready.planned; cut_off = subst (λ a. IsCutOff ask.case ask.tells a new.held) same cut }
+
+  pub result_of : {A : Type 0} (r : Result (String A) Fault) → (IsErrOf r Folder → Rose mid.folder_faults new.folder_faults) → Says ask.case ask.tells (asked uuid plan workers) new.held r → IsResult ask old new r
+  result_of (Ok report) rose says = ((ready.begun, done (string_bytes report) says), later)
+  result_of (Err Folder) rose says = ((ready.begun.taken, rose_from _ _ _ ready.later.folder (rose refl), inr (ready.begun, part says)), refl, later)
+  result_of (Err Memory) rose says = (elim says [ inl cut ↦ inr (inl (part cut)) | inr whole ↦ inr (inr (whole.0, done whole.0 whole.1)) ], refl, later)
+  result_of (Err Usage) rose says = absurd says
+  result_of (Err (Devices why)) rose says = absurd says
+  result_of (Err Occupied) rose says = absurd says
+  result_of (Err Source) rose says = absurd says
+  result_of (Err (Text why)) rose says = absurd says

@@ -1,32 +1,28 @@
 -- How a run may end.
-use Rattle.std.specs.Prelude.{String, ◌≡◌, ◌⊎◌, ◌≤◌, ◌<◌, ℕ, Bool, List, [], ◌∷◌, ◌++◌, All, IsTrue, length, map, slice_index_or, take, codes, Option, Result, Ok, Err, IfSome, if◌then◌else◌, ◌==◌}
+use Rattle.std.specs.Prelude.{String, ◌≡◌, ◌⊎◌, ◌≤◌, ℕ, Bool, List, [], ◌++◌, IsTrue, length, take, codes, Option, Result, Ok, Err, IfSome, if◌then◌else◌, ◌==◌}
 use Rattle.std.specs.String.{string_bytes}
-use Rattle.std.specs.Fmt.{decimal}
 use Rattle.std.specs.FinMap.{empty}
 use Rattle.std.specs.Io.KnownBytes.{Appends, Keeps, IsAtEnd}
-use Rattle.aff_model.specs.declared.limits.TheConstants.{SECTOR, LARGE_BLOCK}
 use Rattle.aff_model.specs.Causes.{Rose}
-use Rattle.aff_model.specs.Content.{Content, IsBlock}
+use Rattle.aff_model.specs.Content.{Content}
 use Rattle.aff_model.specs.Held.{Held}
+use Rattle.aff_model.specs.History.{Published}
 use Rattle.aff_model.specs.Plan.{Planned, IsPlan}
 use Rattle.aff_outside.specs.declared.folder.Folder.{Ghosts as FolderGhosts}
 use Rattle.aff_outside.specs.declared.text.Source.{Ghosts as SourceGhosts}
 use Rattle.aff_outside.specs.declared.text.Sink.{Ghosts as SinkGhosts}
-use Rattle.aff_device.specs.Around.{RoseBy}
-use Rattle.aff_plan.specs.Order.{IsOrderOf}
 use Rattle.aff_spec.specs.Report.{report_text}
-use Rattle.aff_spec.specs.Words.{IsAcquire, IsDeviceSize, uuid_of}
 use Rattle.aff_image.specs.Asked.{Asked}
-use Rattle.aff_image.specs.Image.{Image}
-use Rattle.aff_finish.specs.Finished.{IsFinished, IsStopped}
 use Rattle.aff_finish.specs.HashLines.{hash_lines}
 use Rattle.aff_finish.specs.declared.hashes.Hashes.{Hashes}
-use Rattle.aff_top.specs.Stored.{IsOwn, blocks_lost}
+use Rattle.aff_run.specs.Ends.{IsAcquired, IsCutOff, asked}
+use Rattle.aff_command.specs.CommandLine.{AreAcquire, uuid_of}
+use Rattle.aff_command.specs.Devices.{ShownDevice, IsFit}
+use Rattle.aff_command.specs.Refusals.{AreRefused, refusal_line}
+use Rattle.aff_command.specs.declared.devices.Refusal.{Refusal}
 use Rattle.aff_top.specs.Texts.{IsRunText, IsTextRefused, text_line}
 use Rattle.aff_top.specs.declared.fault.Fault.{Fault}
 use Rattle.aff_top.specs.declared.fault.Fault.TheVariants.{Usage, Devices, Occupied, Source, Text, Folder, Memory}
-use Rattle.aff_top.specs.declared.fault.Refusal.{Refusal}
-use Rattle.aff_top.specs.declared.fault.Refusal.TheVariants.{Missing, Several, Block, Size}
 use Rattle.aff_top.specs.declared.fault.TextFault.{TextFault}
 
 -- what is asked: the words, with what is told of the device's content, and whether the folder tells what it holds
@@ -37,16 +33,6 @@ pub record Request : Type 0 where
 
 abbrev pub request : List (List ℕ) → Option Content → Bool → Request
 request words case tells = record { words = words; case = case; tells = tells }
-
--- what a device shows
-pub record ShownDevice : Type 0 where
-  pub content : Option Content
-  pub block : ℕ
-  pub size : ℕ
-  pub faults : ℕ
-
-abbrev pub shown : Option Content → ℕ → ℕ → ℕ → ShownDevice
-shown content block size faults = record { content = content; block = block; size = size; faults = faults }
 
 -- what a run is handed, and what it shows at one time: the devices as they show and as they are, the folder, the source
 pub record Facts (F S D : Type 0) : Type 0 where
@@ -63,18 +49,7 @@ abbrev pub facts : {F R P S D : Type 0} → FolderGhosts F R P → SourceGhosts 
 facts f s devices handed folder source =
     record { devices = devices; handed = handed; folder = folder; source = source; held = f.held folder; folder_faults = f.folder_faults folder; left = s.left source; source_faults = s.source_faults source }
 
--- the words are those of an acquisition, with blocks of either size
-abbrev pub AreAcquire : List (List ℕ) → Type 0
-AreAcquire words = (block : ℕ) × IsAcquire block words
-
--- the one device: its block is 512 or 4,096 bytes, and its size is accepted
-pub record IsFit (devices : List ShownDevice) : Type 0 where
-  pub device : ShownDevice
-  pub only : devices ≡ device ∷ []
-  pub is_block : IsBlock device.block
-  pub accepted : IsDeviceSize device.block device.size
-
--- an acquisition is asked, from a device that is fit
+-- an acquisition is asked, from devices that are fit
 pub record IsAccepted {F S D : Type 0} (ask : Request) (old : Facts F S D) : Type 0 where
   pub words : AreAcquire ask.words
   pub devices : IsFit old.devices
@@ -94,33 +69,15 @@ pub record IsUntouched {F S D : Type 0} (ask : Request) (old new : Facts F S D) 
   pub handed : new.handed ≡ old.handed
   pub held : IsTrue ask.tells → new.held ≡ old.held
 
--- what the one worker of an acquisition is asked for
-abbrev pub asked : List ℕ → Planned → Asked
-asked uuid plan = record { uuid = uuid; plan = plan; workers = 1; examiners = 0 }
-
--- A plan was acquired: the folder is the finished volume of an image of it, whose history has the extents by falling priority
--- and then by rising offset, each read by worker 0 for itself; the report is that of the history, with the hashes that the
--- volume states; and the device's count rose by at least the number of blocks that are unreadable.
-pub record IsRun (case : Option Content) (tells : Bool) (uuid : List ℕ) (plan : Planned) (before now : ℕ) (held : Held) (report : List ℕ) : Type 0 where
-  pub image : Image
+-- A plan was acquired by so many workers: the folder is the finished volume of an image of it, and the report is that of the
+-- image's history, with the hashes that the volume states.
+pub record IsRun (case : Option Content) (tells : Bool) (ask : Asked) (held : Held) (report : List ℕ) : Type 0 where
+  pub history : List Published
   pub hashes : Hashes
-  pub finished : IsFinished case tells (asked uuid plan) image held hashes
-  pub order : IsOrderOf plan.extents (map (λ p. p.extent) image.history)
-  pub own : All IsOwn image.history
-  pub is_report : report ≡ report_text uuid plan.size (length plan.extents) image.history ++ hash_lines hashes
-  pub counted : RoseBy (blocks_lost plan.block image.history) before now
+  pub acquired : IsAcquired case tells ask held history hashes
+  pub is_report : report ≡ report_text ask.uuid ask.plan.size (length ask.plan.extents) history ++ hash_lines hashes
 
--- the order of appends of an image of the plan had got so far
-pub record IsCutOff (case : Option Content) (tells : Bool) (uuid : List ℕ) (plan : Planned) (held : Held) : Type 0 where
-  pub image : Image
-  pub stopped : IsStopped case tells (asked uuid plan) image held
-
--- the count of a device's faults
-abbrev pub first_faults : List ShownDevice → ℕ
-first_faults [] = 0
-first_faults (device ∷ others) = device.faults
-
--- the text was that of a plan for the one device
+-- the text was that of a plan for the devices
 pub record IsPlanned (devices : List ShownDevice) (left : Option (List ℕ)) (plan : Planned) : Type 0 where
   pub fit : IsFit devices
   pub size : plan.size ≡ fit.device.size
@@ -133,28 +90,20 @@ pub record IsDone {F S D : Type 0} (ask : Request) (old new : Facts F S D) (repo
   pub plan : Planned
   pub planned : IsPlanned old.devices old.left plan
   pub whole : IsAtEnd new.left
-  pub run : IsRun ask.case ask.tells (uuid_of ask.words) plan (first_faults old.devices) (first_faults new.devices) new.held report
+  pub run : IsRun ask.case ask.tells (asked (uuid_of ask.words) plan (length old.devices)) new.held report
 
 -- the run's plan was not acquired whole
 pub record IsPartlyDone {F S D : Type 0} (ask : Request) (old new : Facts F S D) : Type 0 where
   pub plan : Planned
   pub planned : IsPlanned old.devices old.left plan
-  pub cut_off : IsCutOff ask.case ask.tells (uuid_of ask.words) plan new.held
+  pub cut_off : IsCutOff ask.case ask.tells (asked (uuid_of ask.words) plan (length old.devices)) new.held
 
--- the text is refused for the one device, by this line
+-- the text is refused for the devices, by this line
 pub record IsRefusedBy {F S D : Type 0} (old : Facts F S D) (line : List ℕ) : Type 0 where
   pub fit : IsFit old.devices
   pub fault : TextFault
   pub says : line ≡ text_line fault
   pub text : IfSome old.left (λ text. IsTextRefused fit.device.size fit.device.block text fault)
-
--- the devices as they come back: contents, blocks and sizes stay, and counts do not fall
-pub record AreKept {D : Type 0} (content : D → Option Content) (block size faults : D → ℕ) (old new : List D) : Type 0 where
-  pub count : length new ≡ length old
-  pub contents : (k : ℕ) (d : D) → k < length old → content (slice_index_or new k d) ≡ content (slice_index_or old k d)
-  pub blocks : (k : ℕ) (d : D) → k < length old → block (slice_index_or new k d) ≡ block (slice_index_or old k d)
-  pub sizes : (k : ℕ) (d : D) → k < length old → size (slice_index_or new k d) ≡ size (slice_index_or old k d)
-  pub rising : (k : ℕ) (d : D) → k < length old → faults (slice_index_or old k d) ≤ faults (slice_index_or new k d)
 
 -- counts do not fall
 pub record HaveNotFallen {F S D : Type 0} (old new : Facts F S D) : Type 0 where
@@ -186,7 +135,7 @@ status_at n =
     else (if n == 8 then occupied
     else (if n == 10 then devices else other))))))))
 
--- why each status comes, and what it leaves; at `done` and `sink` with this report, at `text` with this line
+-- why each status comes, and what it leaves; at `done` and `sink` with this report, at `text` and `devices` with this line
 abbrev pub Leaves : {F S D : Type 0} → Status → Request → Facts F S D → Facts F S D → List ℕ → Type 0
 Leaves done ask old new report = IsBegun ask old × IsDone ask old new report
 Leaves usage ask old new report = (¬ (AreAcquire ask.words)) × (new ≡ old)
@@ -197,34 +146,21 @@ Leaves folder ask old new report =
     IsAccepted ask old × Rose old.folder_faults new.folder_faults × ((IsUntouched ask old new × (new.source ≡ old.source)) ⊎ (IsBegun ask old × IsPartlyDone ask old new))
 Leaves memory ask old new report = (IsTrue ask.tells → new.held ≡ old.held) ⊎ (IsPartlyDone ask old new ⊎ ((whole : List ℕ) × IsDone ask old new whole))
 Leaves occupied ask old new report = IsAccepted ask old × IsOccupied ask old × IsUntouched ask old new × (new.source ≡ old.source)
-Leaves devices ask old new report = AreAcquire ask.words × (¬ (IsFit old.devices)) × (new ≡ old)
+Leaves devices ask old new line = AreAcquire ask.words × ((why : Refusal) × AreRefused old.devices why × (line ≡ refusal_line why)) × (new ≡ old)
 Leaves other ask old new report = ⊥
 
--- the line of a device that is refused by itself: for a block that is neither 512 nor 4,096 bytes, else for its size
-abbrev pub device_line : ShownDevice → List ℕ
-device_line d =
-    if d.block == SECTOR then codes "error devices size 0 " ++ (decimal d.size ++ codes "\n")
-    else (if d.block == LARGE_BLOCK then codes "error devices size 0 " ++ (decimal d.size ++ codes "\n")
-    else codes "error devices sector 0 " ++ (decimal d.block ++ codes "\n"))
-
--- the line of devices that are not fit
-abbrev pub devices_line : List ShownDevice → List ℕ
-devices_line [] = codes "error devices none\n"
-devices_line (d ∷ []) = device_line d
-devices_line (d ∷ e ∷ others) = codes "error devices unbuilt\n"
-
 -- what is written at each status
-abbrev pub text_of : Status → List ShownDevice → List ℕ → List ℕ
-text_of done handed report = report
-text_of usage handed report = codes "error usage\n"
-text_of text handed line = line
-text_of source handed report = codes "error source\n"
-text_of sink handed report = report
-text_of folder handed report = codes "error folder\n"
-text_of memory handed report = codes "error memory\n"
-text_of occupied handed report = codes "error occupied\n"
-text_of devices handed report = devices_line handed
-text_of other handed report = []
+abbrev pub text_of : Status → List ℕ → List ℕ
+text_of done report = report
+text_of usage report = codes "error usage\n"
+text_of text line = line
+text_of source report = codes "error source\n"
+text_of sink report = report
+text_of folder report = codes "error folder\n"
+text_of memory report = codes "error memory\n"
+text_of occupied report = codes "error occupied\n"
+text_of devices line = line
+text_of other report = []
 
 -- what a sink shows at one time
 pub record Output : Type 0 where
@@ -252,7 +188,7 @@ Writes _ old new bytes = Appends old.written new.written bytes ⊎ IsWrittenInPa
 pub record IsOutcome {F S D : Type 0} (ask : Request) (old new : Facts F S D) (before after : Output) (status : ℕ) : Type 0 where
   pub report : List ℕ
   pub leaves : Leaves (status_at status) ask old new report
-  pub writes : Writes (status_at status) before after (text_of (status_at status) old.devices report)
+  pub writes : Writes (status_at status) before after (text_of (status_at status) report)
   pub later : HaveNotFallen old new
 
 -- the status of each fault, and its line
@@ -265,12 +201,6 @@ code_of Memory = 7
 code_of Occupied = 8
 code_of (Devices refusal) = 10
 
-abbrev pub refusal_line : Refusal → List ℕ
-refusal_line Missing = codes "error devices none\n"
-refusal_line Several = codes "error devices unbuilt\n"
-refusal_line (Block n) = codes "error devices sector 0 " ++ (decimal n ++ codes "\n")
-refusal_line (Size n) = codes "error devices size 0 " ++ (decimal n ++ codes "\n")
-
 abbrev pub line_of : Fault → List ℕ
 line_of Usage = codes "error usage\n"
 line_of (Text fault) = text_line fault
@@ -280,11 +210,33 @@ line_of Memory = codes "error memory\n"
 line_of Occupied = codes "error occupied\n"
 line_of (Devices refusal) = refusal_line refusal
 
+-- what a fault leaves, and its line
+abbrev pub IsFaultOf : {F S D : Type 0} → Fault → Request → Facts F S D → Facts F S D → Type 0
+IsFaultOf fault ask old new =
+    Leaves (status_at (code_of fault)) ask old new (line_of fault) × (line_of fault ≡ text_of (status_at (code_of fault)) (line_of fault)) × HaveNotFallen old new
+
 -- the answer of an acquisition, before anything is written
 abbrev pub IsResult : {A F S D : Type 0} → Request → Facts F S D → Facts F S D → Result (String A) Fault → Type 0
 IsResult ask old new (Ok report) = Leaves done ask old new (string_bytes report) × HaveNotFallen old new
-IsResult ask old new (Err fault) =
-    Leaves (status_at (code_of fault)) ask old new (line_of fault) × (line_of fault ≡ text_of (status_at (code_of fault)) old.devices (line_of fault)) × HaveNotFallen old new
+IsResult ask old new (Err fault) = IsFaultOf fault ask old new
+
+-- What is said of an acquisition: its report; that the folder failed, or that there was no memory, where it was cut off; or that
+-- there was no memory for the report of one that is done.
+abbrev pub Says : {A : Type 0} → Option Content → Bool → Asked → Held → Result (String A) Fault → Type 0
+Says case tells run held (Ok report) = IsRun case tells run held (string_bytes report)
+Says case tells run held (Err Folder) = IsCutOff case tells run held
+Says case tells run held (Err Memory) = IsCutOff case tells run held ⊎ ((whole : List ℕ) × IsRun case tells run held whole)
+Says case tells run held (Err fault) = ⊥
+
+-- a run may begin: by the words and devices that were handed in, with this UUID, and with the plan that all of the source's
+-- text is; the folder is as it was
+pub record IsReady {F S D : Type 0} (ask : Request) (old new : Facts F S D) (uuid : List ℕ) (plan : Planned) : Type 0 where
+  pub begun : IsBegun ask old
+  pub named : uuid ≡ uuid_of ask.words
+  pub planned : IsPlanned old.devices old.left plan
+  pub whole : IsAtEnd new.left
+  pub held : IsTrue ask.tells → new.held ≡ old.held
+  pub later : HaveNotFallen old new
 
 -- what is written of an answer, and with what status
 abbrev pub IsTold : {A : Type 0} → Result (String A) Fault → Output → Output → ℕ → Type 0

@@ -2,23 +2,11 @@
 ghost use Rattle.std.specs.Prelude.{◌≡◌, ◌⊎◌};
 ghost use Rattle.aff_top.specs.declared.fault.Fault.TheVariants.{Memory};
 
+use aff_command::Refusal;
 use aff_model::Memory as NoMemory;
 use aff_outside::FolderError;
 use aff_plan::PlanError;
 use std::alloc::{AllocError, AllocFailed};
-
-/// Why the devices that were handed in are refused.
-#[derive(Clone, Copy, Debug, PartialEq, Eq)]
-pub enum Refusal {
-    /// There is none.
-    Missing,
-    /// There are two or more.
-    Several,
-    /// The device's block has this number of bytes, which is neither 512 nor 4,096.
-    Block(u32),
-    /// The device has this number of bytes: 0, no whole blocks, or more than 2^44.
-    Size(u64),
-}
 
 /// Why the text of a source is refused.
 #[derive(Clone, Copy, Debug, PartialEq, Eq)]

@@ -1,27 +1,15 @@
 //! What a run writes: its report, or the line of its fault.
 ghost use Rattle.std.specs.Prelude.{◌≡◌, ◌⊎◌, ◌++◌, codes, IfOk};
-ghost use Rattle.std.specs.Fmt.{decimal};
 ghost use Rattle.std.specs.Io.KnownBytes.{Appends, Keeps};
 ghost use Rattle.std.specs.String.{string_bytes};
-ghost use Rattle.aff_top.specs.Outcomes.{IsWrittenInPart, IsTold, code_of, line_of, output, refusal_line};
+ghost use Rattle.aff_top.specs.Outcomes.{IsWrittenInPart, IsTold, code_of, line_of, output};
 ghost use Rattle.aff_top.specs.Texts.{plan_line, text_line};
 
-use crate::fault::{Fault, Refusal, TextFault};
+use crate::fault::{Fault, TextFault};
+use aff_command::refusal_line;
 use aff_outside::{Sink, SinkError};
 use aff_plan::PlanError;
 use std::alloc::{AllocError, Global};
-
-// The line of devices that are refused.
-fn refusal(alloc: Global, refusal: Refusal) -> Result<String, AllocError>
-    ensures { IfOk result (λ line. string_bytes line ≡ refusal_line refusal) }
-{
-    match refusal {
-        Refusal::Missing => format!(in alloc; "error devices none\n"),
-        Refusal::Several => format!(in alloc; "error devices unbuilt\n"),
-        Refusal::Block(bytes) => format!(in alloc; "error devices sector 0 {bytes}\n"),
-        Refusal::Size(bytes) => format!(in alloc; "error devices size 0 {bytes}\n"),
-    }
-}
 
 // The line of a text that is no plan's.
 fn plan_refusal(alloc: Global, error: PlanError) -> Result<String, AllocError>
@@ -65,7 +53,7 @@ fn line(alloc: Global, fault: Fault) -> Result<String, AllocError>
         Fault::Folder => format!(in alloc; "error folder\n"),
         Fault::Memory => format!(in alloc; "error memory\n"),
         Fault::Occupied => format!(in alloc; "error occupied\n"),
-        Fault::Devices(refused) => refusal(alloc, refused),
+        Fault::Devices(refusal) => refusal_line(alloc, refusal),
     }
 }
 

@@ -8,6 +8,8 @@ use aff_outside::{Device, FileFolder, Folder, OpenGate, OutputSink};
 use aff_top::run_words;
 use std::alloc::{AllocError, Global};
 use std::process::ExitCode;
+use std::sync::Wait;
+use std::thread::Threads;
 
 const FOLDER: &str = "volume";
 
@@ -32,15 +34,18 @@ fn card(alloc: Global) -> Result<Vec<u8>, AllocError> {
 }
 
 /// Acquires the card, and gives the status. The report goes to standard output.
-fn acquire(rt: HostRuntime) -> Result<u8, AllocError> {
+fn acquire<W: Alloc<A = Global> + Threads + Wait + Sync>(
+    rt: HostRuntime,
+    threads: &W,
+) -> Result<u8, AllocError> {
     let alloc = rt.alloc();
     let device = FixedDevice::new(card(alloc)?, vec![in alloc; 1u64, 2, 70, 127]?);
     let mut devices: Vec<Box<dyn Device>> = Vec::new(alloc);
     devices.push(Box::new(alloc, device)?)?;
     let folder = FileFolder::at(rt, FOLDER).map_err(|_| AllocError)?;
     let mut source = MemorySource::new(Vec::from_slice(alloc, PLAN)?, Vec::new(alloc));
-    let end = run_words::<Untold, _, _, _, _>(
-        alloc,
+    let end = run_words::<Untold, _, _, _, _, _>(
+        threads,
         &WORDS,
         devices,
         Vec::new(alloc),
@@ -53,7 +58,7 @@ fn acquire(rt: HostRuntime) -> Result<u8, AllocError> {
 }
 
 fn main(rt: HostRuntime) -> ExitCode {
-    let Ok(status) = acquire(rt) else {
+    let Ok(status) = acquire(rt, &rt) else {
         return ExitCode::FAILURE;
     };
     let Ok(mut folder) = FileFolder::at(rt, FOLDER) else {

@@ -9,7 +9,7 @@ use std::process::ExitCode;
 const FOLDER: &str = "evidence";
 
 fn main(rt: HostRuntime) -> ExitCode {
-    let status = aff_program::run(rt);
+    let status = aff_program::run(rt, &rt);
     let Ok(mut folder) = FileFolder::at(rt, FOLDER) else {
         return ExitCode::FAILURE;
     };

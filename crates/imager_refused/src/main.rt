@@ -4,5 +4,5 @@
 use std::process::ExitCode;
 
 fn main(rt: HostRuntime) -> ExitCode {
-    ExitCode::from(aff_program::run(rt))
+    ExitCode::from(aff_program::run(rt, &rt))
 }

@@ -6,7 +6,7 @@ use Rattle.aff_device.proofs.part.+read_part.Goals as goal
 pub returns-then-could_read-clause-read : goal.returns-then-could_read-clause-read
 returns-then-could_read-clause-read g t c =
     whole_read _ _ _ _ _ _ _ _ _ _ c.requires.block (ap (λ n. c.args.start + SECTOR * n) c.from.ensures) c.requires.whole c.could_read.auto.buf
-    (c.could_read.ensures.bytes c.if-could_read.true) (c.could_read.ensures.good c.if-could_read.true) c.could_read.ensures.later
+    (c.could_read.ensures.bytes c.if-could_read.true) (c.could_read.ensures.good c.if-could_read.true) c.could_read.ensures.kept.later
 
 pub returns-in-1-clause-read : goal.returns-in-1-clause-read
 returns-in-1-clause-read g t c =
@@ -17,5 +17,5 @@ returns-in-1-clause-read g t c =
 
 pub returns-in_default-clause-read : goal.returns-in_default-clause-read
 returns-in_default-clause-read g t c =
-    both_read _ _ _ _ _ _ _ _ _ _ _ _ _ _ _ _ _ _ c.requires.block c.could_read.ensures.content (c.read_part.ensures.content ∙ c.could_read.ensures.content) c.requires.whole
-    c.half_of-half.ensures.whole refl (c.read_part.auto.buf ∙ c.split_at_mut-front.ensures.front_len) c.could_read.ensures.later c.read_part.ensures.read c.read_part-in_default.ensures.read
+    both_read _ _ _ _ _ _ _ _ _ _ _ _ _ _ _ _ _ _ c.requires.block c.could_read.ensures.kept.holds (c.read_part.ensures.kept.holds ∙ c.could_read.ensures.kept.holds) c.requires.whole
+    c.half_of-half.ensures.whole refl (c.read_part.auto.buf ∙ c.split_at_mut-front.ensures.front_len) c.could_read.ensures.kept.later c.read_part.ensures.read c.read_part-in_default.ensures.read

@@ -1,0 +1,4 @@
+pub mod Crews
+pub mod Ends
+pub mod Keeping
+pub mod Sweeping

@@ -1,4 +1,0 @@
-use Rattle.aff_top.proofs.run.outside.Goals as goal
-
-pub returns-in-None-clause-none : goal.returns-in-None-clause-none
-returns-in-None-clause-none c = λ are. c.in-None.ensures.none are.0 are.1

@@ -1,0 +1,52 @@
+//! Whether a run may begin.
+ghost use Rattle.std.specs.Prelude.{Option, map, IfErr, IfOk};
+ghost use Rattle.aff_model.specs.Content.{Content};
+ghost use Rattle.aff_command.specs.Devices.{shown};
+ghost use Rattle.aff_top.specs.Outcomes.{IsFaultOf, IsReady, facts, request};
+
+use crate::fault::Fault;
+use crate::plan::read_plan;
+use crate::vacant::look_into;
+use aff_command::{acquisition, first_block, first_size, refused};
+use aff_model::Plan;
+use aff_names::Uuid;
+use aff_outside::{Device, Folder, Source};
+use std::alloc::Global;
+
+/// The volume that a run makes, and the plan by which it goes.
+#[derive(Drop)]
+pub struct Request {
+    pub uuid: Uuid,
+    pub plan: Plan,
+}
+
+/// Looks at the words, then at the devices, into the folder, and at all of the source's text. No device is read.
+pub fn read_request<F: Folder, S: Source>(
+    alloc: Global,
+    words: &[&str],
+    devices: &[Box<dyn Device>],
+    folder: &mut F,
+    source: &mut S,
+) -> Result<Request, Fault>
+    ensures ready { IfOk result (λ r. (case : Option Content) → IsReady (request (map (λ w. w.now) words.now) case F.tells)
+        (facts F.Folder S.Source (map (λ d. shown (device_content d) (device_block d) (device_size d) (device_faults d)) devices.now) devices.now folder.old source.old)
+        (facts F.Folder S.Source (map (λ d. shown (device_content d) (device_block d) (device_size d) (device_faults d)) devices.now) devices.now folder.new source.new)
+        r.uuid r.plan) }
+    ensures refused { IfErr result (λ fault. (case : Option Content) → IsFaultOf fault (request (map (λ w. w.now) words.now) case F.tells)
+        (facts F.Folder S.Source (map (λ d. shown (device_content d) (device_block d) (device_size d) (device_faults d)) devices.now) devices.now folder.old source.old)
+        (facts F.Folder S.Source (map (λ d. shown (device_content d) (device_block d) (device_size d) (device_faults d)) devices.now) devices.now folder.new source.new)) }
+{
+    let Some((_, uuid)) = acquisition(words) else {
+        return Err(Fault::Usage);
+    };
+    if let Some(refusal) = refused(devices) {
+        return Err(Fault::Devices(refusal));
+    }
+    if let Err(fault) = look_into(folder) {
+        return Err(fault);
+    }
+    match read_plan(alloc, source, first_size(devices), first_block(devices)) {
+        Ok(plan) => Ok(Request { uuid, plan }),
+        Err(fault) => Err(fault),
+    }
+}
