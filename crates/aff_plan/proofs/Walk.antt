@@ -24,7 +24,8 @@ before_first-no p x xs other =
 pub lines_from-session : (n : ℕ) (line : List ℕ) (lines : List (List ℕ)) → is_session line ≡ true → lines_from n (line ∷ lines) ≡ []
 lines_from-session n line lines same = ap (kept_lines n) (before_first-yes is_session line lines same)
 
-kept_lines-one : (n : ℕ) (line : List ℕ) (lines : List (List ℕ)) → kept_lines n (line ∷ lines) ≡ kept_lines n (line ∷ []) ++ kept_lines (n + 1) lines
+-- the lines that are kept of one line and of those behind it
+pub kept_lines-one : (n : ℕ) (line : List ℕ) (lines : List (List ℕ)) → kept_lines n (line ∷ lines) ≡ kept_lines n (line ∷ []) ++ kept_lines (n + 1) lines
 kept_lines-one n line lines = cases (is_skipped line)
   where
     cases : (t : Bool) → cond (not t) ((n, line) ∷ kept_lines (n + 1) lines) (kept_lines (n + 1) lines) ≡ cond (not t) ((n, line) ∷ []) [] ++ kept_lines (n + 1) lines

@@ -13,7 +13,9 @@ mod script;
 mod sorting;
 mod write;
 
+pub use cut::cut_at;
 pub use error::PlanError;
+pub use line::{is_skipped, number};
 pub use read::read_plan;
 pub use script::script_line;
 pub use sorting::order;

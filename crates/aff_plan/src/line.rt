@@ -63,8 +63,8 @@ fn has_leading_zero(field: &[u8]) -> bool
     field.len() > 1 && field[0] == b'0'
 }
 
-/// The number that a field is.
-fn number(field: &[u8]) -> Option<u64>
+/// The number that a field is: 64 bits, in decimal, without a sign and without leading zeros.
+pub fn number(field: &[u8]) -> Option<u64>
     ensures { MatchOption result (IsNoNumber field.now) (IsNumber field.now) }
 {
     if has_sign(field) {

@@ -1,0 +1,12 @@
+mod Causes
+mod Contents
+mod Fetching
+mod Keeping
+mod Marks
+mod Parts
+mod Puts
+mod Samples
+mod Shown
+mod Steps
+mod Stored
+mod Whole

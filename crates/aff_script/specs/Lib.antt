@@ -1,0 +1,5 @@
+pub mod Line
+pub mod Reading
+pub mod Refused
+pub mod Script
+pub mod Split

@@ -1,0 +1,9 @@
+pub mod Chunks
+pub mod Fits
+pub mod Lengths
+pub mod Lines
+pub mod Listing
+pub mod Opening
+pub mod Reading
+pub mod Refused
+pub mod Spots

@@ -1,0 +1,10 @@
+pub mod Chunks
+pub mod Errors
+pub mod Hashed
+pub mod Image
+pub mod Listing
+pub mod Opened
+pub mod Parts
+pub mod Reading
+pub mod Refusals
+pub mod Tables

@@ -1,0 +1,345 @@
+//! What no clause says: that calls succeed where there is memory, each call once, and worked refusals of one small volume.
+ghost use Rattle.std.specs.Prelude.{◌≡◌, ◌+◌, ◌≤◌, length, IfOk, IsTrue};
+ghost use Rattle.aff_volume.specs.Opened.{IsVolumeOf};
+
+use crate::sample::{DATA, IDX, IMAGE, INFORMATION, RESPELLED};
+use crate::{Volume, VolumeReadError};
+use aff_fields::{Entry, Point, write_entries, write_points};
+use aff_hash::{ChunkSums, Digest, Hash, chunk_sums, digest};
+use aff_memory::MemoryFolder;
+use aff_outside::Folder;
+use std::alloc::{AllocError, Global};
+use std::test::Fail;
+
+/// What is done to a segment of the sample, which is named by its last word.
+#[derive(Clone, Copy)]
+enum Change<'a> {
+    Nothing,
+    Without(&'a str),
+    Has(&'a str, &'a [u8]),
+}
+
+/// The entries of the map.
+const ENTRIES: [Entry; 3] = [
+    Entry {
+        at: 0,
+        len: 512,
+        target_at: 0,
+        target: 0,
+    },
+    Entry {
+        at: 512,
+        len: 512,
+        target_at: 512,
+        target: 2,
+    },
+    Entry {
+        at: 1_024,
+        len: 1_024,
+        target_at: 32_768,
+        target: 0,
+    },
+];
+
+/// The chunks of the stream, one after another.
+fn stream(alloc: Global) -> Result<Vec<u8>, AllocError>
+    ensures { IfOk result (λ bytes. length bytes.items ≡ 65536) }
+{
+    let mut bytes = filled(alloc, 7, 65_536)?;
+    for k in 0..32_768 {
+        bytes[k] = (k % 251) as u8;
+    }
+    Ok(bytes)
+}
+
+fn filled(alloc: Global, byte: u8, count: usize) -> Result<Vec<u8>, AllocError>
+    ensures { IfOk result (λ bytes. length bytes.items ≡ count) }
+{
+    vec![in alloc; byte; count]
+}
+
+/// Two digests, one after another.
+fn pair(alloc: Global, first: &[u8], second: &[u8]) -> Result<Vec<u8>, AllocError> {
+    let mut bytes = Vec::new(alloc);
+    bytes.extend_from_slice(first)?;
+    bytes.extend_from_slice(second)?;
+    Ok(bytes)
+}
+
+/// The digests of the two chunks of the stream.
+fn sums_of_halves(bytes: &[u8]) -> (ChunkSums, ChunkSums) {
+    let middle = bytes.len() / 2;
+    (chunk_sums(&bytes[..middle]), chunk_sums(&bytes[middle..]))
+}
+
+/// A folder that is filled with the sample.
+#[derive(Drop)]
+struct Filling<'a> {
+    folder: MemoryFolder,
+    change: Change<'a>,
+}
+
+impl Filling<'_> {
+    /// Appends a segment, unless the change says otherwise.
+    fn put(&mut self, alloc: Global, place: &str, last: &str, bytes: &[u8]) -> Result<(), Fail> {
+        let change = self.change;
+        let bytes = match change {
+            Change::Without(other) if other == last => return Ok(()),
+            Change::Has(other, changed) if other == last => changed,
+            _ => bytes,
+        };
+        let name = format!(in alloc; "{place}{last}")?;
+        match self.folder.append(name.as_str(), bytes) {
+            Ok(_) => Ok(()),
+            Err(_) => Err("no append")?,
+        }
+    }
+}
+
+/// The sample with a change, in a folder whose calls of these numbers fail.
+fn sample(alloc: Global, fail: Vec<u64>, change: Change<'_>) -> Result<MemoryFolder, Fail> {
+    let data = format!(in alloc; "{DATA}/")?;
+    let image = format!(in alloc; "{IMAGE}/")?;
+    let bytes = stream(alloc)?;
+    let points = [
+        Point { at: 0, len: 32_768 },
+        Point {
+            at: 32_768,
+            len: 32_768,
+        },
+    ];
+    let index = write_points(alloc, &points).map_err(|_| "no index")?;
+    let map = write_entries(alloc, &ENTRIES).map_err(|_| "no map")?;
+    let (first, second) = sums_of_halves(bytes.as_slice());
+    let mut filling = Filling {
+        folder: MemoryFolder::new(alloc, fail, Vec::new(alloc)),
+        change,
+    };
+    filling.put(alloc, data.as_str(), "00000000", &bytes)?;
+    filling.put(alloc, data.as_str(), "00000000.index", &index)?;
+    let md5 = pair(alloc, &first.md5, &second.md5)?;
+    filling.put(alloc, data.as_str(), "00000000.blockHash.md5", &md5)?;
+    let sha1 = pair(alloc, &first.sha1, &second.sha1)?;
+    filling.put(alloc, data.as_str(), "00000000.blockHash.sha1", &sha1)?;
+    let sha256 = pair(alloc, &first.sha256, &second.sha256)?;
+    filling.put(alloc, data.as_str(), "00000000.blockHash.sha256", &sha256)?;
+    filling.put(alloc, image.as_str(), "map", &map)?;
+    filling.put(alloc, image.as_str(), "idx", IDX.as_bytes())?;
+    filling.put(alloc, "", "information.turtle", INFORMATION.as_bytes())?;
+    Ok(filling.folder)
+}
+
+/// How the sample with a change is opened: `whole`, or the refusal.
+fn outcome(alloc: Global, change: Change<'_>) -> Result<String, Fail> {
+    let mut folder = sample(alloc, Vec::new(alloc), change)?;
+    match Volume::open(alloc, &mut folder) {
+        Ok(_) => Ok(String::from_str(alloc, "whole")?),
+        Err(error) => Ok(format!(in alloc; "{error:?}")?),
+    }
+}
+
+#[test]
+fn a_whole_volume_is_read(rt: HostRuntime) -> Result<(), Fail> {
+    let alloc = rt.alloc();
+    let mut folder = sample(alloc, Vec::new(alloc), Change::Nothing)?;
+    let volume = match Volume::open(alloc, &mut folder) {
+        Ok(volume) => volume,
+        Err(_) => Err("not opened")?,
+    };
+    assert_eq!(rt; volume.aside(), 0);
+    assert_eq!(rt; volume.info().image_size, 2_560);
+    assert_eq!(rt; volume.info().stream_size, 65_536);
+    Ok(())
+}
+
+#[test]
+fn a_volume_is_refused_for_its_first_fault(rt: HostRuntime) -> Result<(), Fail> {
+    let alloc = rt.alloc();
+    let text = INFORMATION.as_bytes();
+    let short = filled(alloc, 7, 32_767)?;
+    let rows: [(Change<'_>, &str); 12] = [
+        (Change::Nothing, "whole"),
+        (Change::Without("information.turtle"), "NoInformation"),
+        (
+            Change::Has("information.turtle", &[]),
+            "Info(Missing(Stream))",
+        ),
+        (
+            Change::Has("information.turtle", &text[..text.len().saturating_sub(1)]),
+            "whole",
+        ),
+        (
+            Change::Has("information.turtle", &text[..text.len().saturating_sub(2)]),
+            "Turtle(Syntax(16))",
+        ),
+        (
+            Change::Has("information.turtle", RESPELLED.as_bytes()),
+            "whole",
+        ),
+        (Change::Without("map"), "NoMap"),
+        (Change::Without("idx"), "NoMap"),
+        (Change::Without("00000000"), "Stream(NoSegment(0))"),
+        (Change::Has("00000000", &short), "Stream(PointPastEnd(0))"),
+        (Change::Has("00000000.index", &[0; 11]), "Stream(Ragged(0))"),
+        (
+            Change::Has("00000000.blockHash.md5", &[0; 15]),
+            "BlockHashes(0)",
+        ),
+    ];
+    for (change, expected) in rows {
+        assert_eq!(rt; outcome(alloc, change)?.as_str(), expected);
+    }
+    Ok(())
+}
+
+/// How the sample with such entries is opened.
+fn outcome_of_map(alloc: Global, entries: &[Entry]) -> Result<String, Fail> {
+    let map = write_entries(alloc, entries).map_err(|_| "no map")?;
+    outcome(alloc, Change::Has("map", &map))
+}
+
+/// An entry of some bytes at the start of the image.
+fn entry(len: u64, target_at: u64, target: u32) -> Entry {
+    Entry {
+        at: 0,
+        len,
+        target_at,
+        target,
+    }
+}
+
+#[test]
+fn a_map_is_refused_for_its_first_fault(rt: HostRuntime) -> Result<(), Fail> {
+    let alloc = rt.alloc();
+    let rows: [(&[Entry], &str); 7] = [
+        (&[], "whole"),
+        (&[entry(512, 0, 0), entry(512, 0, 0)], "Map(Overlap(0, 1))"),
+        (&[entry(0, 0, 0)], "Map(Empty(0))"),
+        (&[entry(2_561, 0, 0)], "Map(PastEnd(0))"),
+        (&[entry(512, 0, 3)], "Map(NoTarget(0))"),
+        (&[entry(512, 65_024, 0)], "whole"),
+        (&[entry(512, 65_025, 0)], "Map(PastTarget(0))"),
+    ];
+    for (entries, expected) in rows {
+        assert_eq!(rt; outcome_of_map(alloc, entries)?.as_str(), expected);
+    }
+    let lines = format!(in alloc; "{IDX}x")?;
+    let found = outcome(alloc, Change::Has("idx", lines.as_bytes()))?;
+    assert_eq!(rt; found.as_str(), "Map(BadTarget(4))");
+    let found = outcome(alloc, Change::Has("map", &[0; 27]))?;
+    assert_eq!(rt; found.as_str(), "Map(Ragged(27))");
+    Ok(())
+}
+
+/// How two bytes of the image of a folder read from an offset on.
+fn two_bytes<F: Folder>(
+    alloc: Global,
+    folder: &mut F,
+    at: u64,
+) -> Result<Result<[u8; 2], VolumeReadError>, Fail> {
+    match Volume::open(alloc, folder) {
+        Ok(volume) => {
+            let size = volume.info().image_size;
+            if at > size || size - at < 2 {
+                return Err("past the end")?;
+            }
+            two_bytes_of(alloc, folder, &volume, at)
+        }
+        Err(_) => Err("not opened")?,
+    }
+}
+
+fn two_bytes_of<F: Folder>(
+    alloc: Global,
+    folder: &mut F,
+    volume: &Volume,
+    at: u64,
+) -> Result<Result<[u8; 2], VolumeReadError>, Fail>
+    requires inside { at + 2 ≤ volume.now.info.image_size }
+    requires opened { IsTrue F.tells → IsVolumeOf (F.held folder.old) volume.now }
+{
+    let mut out = [0; 2];
+    match volume.read(alloc, folder, at, &mut out) {
+        Ok(()) => Ok(Ok(out)),
+        Err(error) => Ok(Err(error)),
+    }
+}
+
+/// The same of the sample, where its bevvy has these bytes.
+fn bytes_at(
+    alloc: Global,
+    bevvy: &[u8],
+    at: u64,
+) -> Result<Result<[u8; 2], VolumeReadError>, Fail> {
+    let mut folder = sample(alloc, Vec::new(alloc), Change::Has("00000000", bevvy))?;
+    two_bytes(alloc, &mut folder, at)
+}
+
+#[test]
+fn bytes_come_from_chunks_and_symbols(rt: HostRuntime) -> Result<(), Fail> {
+    let alloc = rt.alloc();
+    let bytes = stream(alloc)?;
+    // The last byte before a run, and the first one of it: stored, unreadable, stored, unknown.
+    let rows = [
+        (0, [0, 1]),
+        (511, [9, b'L']),
+        (1_023, [b'N', 7]),
+        (2_047, [7, b'O']),
+        (2_558, [b'N', b'O']),
+    ];
+    for (at, expected) in rows {
+        assert_eq!(rt; bytes_at(alloc, &bytes, at)?, Ok(expected));
+    }
+    Ok(())
+}
+
+/// The SHA-256 of the last of two chunks.
+fn digest_of_last(bytes: &[u8]) -> Digest {
+    digest(Hash::Sha256, &bytes[bytes.len() / 2..])
+}
+
+#[test]
+fn a_changed_chunk_is_damaged(rt: HostRuntime) -> Result<(), Fail> {
+    let alloc = rt.alloc();
+    let mut bytes = stream(alloc)?;
+    bytes[65_535] = 8;
+    let recorded = digest_of_last(stream(alloc)?.as_slice());
+    let found = digest_of_last(bytes.as_slice());
+    // The first chunk is as it was, the second one is read from 1,024 on.
+    assert_eq!(rt; bytes_at(alloc, &bytes, 0)?, Ok([0, 1]));
+    assert_eq!(rt; bytes_at(alloc, &bytes, 1_022)?, Ok([b'U', b'N']));
+    match bytes_at(alloc, &bytes, 1_023)? {
+        Err(
+            VolumeReadError::Damaged {
+                chunk,
+                recorded: kept,
+                found: other,
+            },
+        ) => {
+            assert_eq!(rt; chunk, 1);
+            assert_eq!(rt; kept[..], recorded.bytes[..32]);
+            assert_eq!(rt; other[..], found.bytes[..32]);
+        }
+        _ => assert!(rt; false, "not damaged"),
+    }
+    Ok(())
+}
+
+#[test]
+fn each_call_fails_once(rt: HostRuntime) -> Result<(), Fail> {
+    let alloc = rt.alloc();
+    let made = sample(alloc, Vec::new(alloc), Change::Nothing)?.calls();
+    // Opening lists the folder, and reads the metadata, an index and two tables.
+    for number in 0..6 {
+        let mut fail = Vec::new(alloc);
+        fail.push(made.saturating_add(number).saturating_add(1))?;
+        let mut folder = sample(alloc, fail, Change::Nothing)?;
+        let found = match Volume::open(alloc, &mut folder) {
+            Ok(_) => String::from_str(alloc, "whole")?,
+            Err(error) => format!(in alloc; "{error:?}")?,
+        };
+        let expected = if number < 5 { "Failed" } else { "whole" };
+        assert_eq!(rt; found.as_str(), expected);
+    }
+    Ok(())
+}
