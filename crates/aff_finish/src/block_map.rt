@@ -78,20 +78,21 @@ pub fn hash_block_map<F: Folder>(
         return Err(FolderError::Memory);
     };
     let mut outer = Linear::new();
-    if let Err(error) = feed_all_kept(alloc, folder, &stream, chunks, &mut buffer, &mut outer) {
+    if let Err(error) = feed_block_hashes(alloc, folder, &stream, chunks, &mut buffer, &mut outer) {
         return Err(error);
     }
-    if let Err(error) = feed_digest(folder, &segments.map, &mut buffer, &mut outer) {
+    if let Err(error) = feed_pending(folder, &segments.map, &mut buffer, &mut outer) {
         return Err(error);
     }
-    if let Err(error) = feed_digest(folder, &segments.idx, &mut buffer, &mut outer) {
+    if let Err(error) = feed_pending(folder, &segments.idx, &mut buffer, &mut outer) {
         return Err(error);
     }
     Ok(outer.finish().sha512)
 }
 
-// Feeds the three digests of the block hashes.
-fn feed_all_kept<F: Folder>(
+/// Feeds the three digests of the block hashes of `chunks` chunks of a stream, one for each hash function. What the
+/// folder holds stays, whatever the answer.
+pub fn feed_block_hashes<F: Folder>(
     alloc: Global,
     folder: &mut F,
     stream: &Urn,
@@ -194,7 +195,7 @@ fn feed_bevvy<F: Folder>(
 }
 
 // Feeds the digest of a segment that has these bytes.
-fn feed_digest<F: Folder>(
+fn feed_pending<F: Folder>(
     folder: &mut F,
     segment: &Pending,
     buffer: &mut [u8],
@@ -206,9 +207,27 @@ fn feed_digest<F: Folder>(
     ensures same { IsTrue F.tells → F.held folder.new ≡ F.held folder.old }
     ensures cause { HasCause (F.folder_faults folder.old) (F.folder_faults folder.new) (IsErrOf result FolderError.Failed) }
 {
-    let mut inner = Linear::new();
     let len = segment.bytes.len() as u64;
-    match feed_segment(folder, segment.name.as_str(), len, buffer, &mut inner) {
+    feed_digest(folder, segment.name.as_str(), len, buffer, outer)
+}
+
+/// Feeds the digest of a segment of this length, which is read in pieces of at most the buffer's. What the folder holds
+/// stays, whatever the answer.
+pub fn feed_digest<F: Folder>(
+    folder: &mut F,
+    name: &str,
+    len: u64,
+    buffer: &mut [u8],
+    outer: &mut Linear,
+) -> Result<(), FolderError>
+    requires room { 0 < length buffer.old }
+    requires long { IsTrue F.tells → length (bytes_of (F.held folder.old) name.now) ≡ len }
+    ensures fed { OnOk result (IsTrue F.tells → outer.new ≡ outer.old ++ sha512 (bytes_of (F.held folder.old) name.now)) }
+    ensures same { IsTrue F.tells → F.held folder.new ≡ F.held folder.old }
+    ensures cause { HasCause (F.folder_faults folder.old) (F.folder_faults folder.new) (IsErrOf result FolderError.Failed) }
+{
+    let mut inner = Linear::new();
+    match feed_segment(folder, name, len, buffer, &mut inner) {
         Ok(()) => {
             outer.update(&inner.finish().sha512);
             Ok(())

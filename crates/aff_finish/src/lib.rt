@@ -14,6 +14,7 @@ mod pending;
 mod segments;
 mod volume;
 
+pub use block_map::{feed_block_hashes, feed_digest};
 pub use hashes::Hashes;
 pub use laws::{may_finish, may_stop, may_stop_behind};
 pub use volume::finish;

@@ -1,5 +1,8 @@
+pub mod Agreeing
+pub mod BlockMap
 pub mod Chunks
 pub mod Fits
+pub mod Hashing
 pub mod Lengths
 pub mod Lines
 pub mod Listing

@@ -119,6 +119,9 @@ module _ (held : Held) (info : Info) (map : Mapped) (fit : IsFit info) (is : IsM
           (subst (IsRecorded Sha256 held info.stream) (sym chunk) sound);
     }
 
+    pub stored_byte : (k b : ℕ) → k < s.len → stream_byte held info.stream (s.target_at + k) ≡ Some b → volume_byte held (named_by info) (at + k) ≡ Some b
+    stored_byte k b low byte = run_byte held info map fit is at s goes leads k low ∙ ap (λ t. byte_of held info.stream t (s.target_at + k)) stored ∙ byte
+
     pub stored_error : (e : VolumeReadError) → 0 < s.len → IsChunkError held info.stream (s.target_at / 32768) e → IsReadError held (named_by info) at 1 e
     stored_error Failed some h = tt
     stored_error Memory some h = tt

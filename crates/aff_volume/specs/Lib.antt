@@ -1,3 +1,4 @@
+pub mod Agreement
 pub mod Chunks
 pub mod Errors
 pub mod Hashed

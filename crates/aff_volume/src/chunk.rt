@@ -5,6 +5,7 @@ ghost use Rattle.aff_model.specs.Plan.{chunk_count};
 ghost use Rattle.aff_bevvy.specs.Streams.{IsStream, chunk_len, chunk_point};
 ghost use Rattle.aff_spec.specs.Streams.{chunk_of};
 ghost use Rattle.aff_hash.specs.Digest.{digest_size};
+ghost use Rattle.aff_volume.specs.Agreement.{IsChunkSound, IsFirstDifference};
 ghost use Rattle.aff_volume.specs.Chunks.{IsChunkError, IsDifference};
 ghost use Rattle.aff_volume.specs.Hashed.{AreHashed};
 ghost use Rattle.aff_volume.specs.Image.{IsRecorded, recorded_of};
@@ -69,6 +70,62 @@ fn sha256_in(digest: &Digest) -> [u8; 32]
     let mut bytes = [0; 32];
     bytes.copy_from_slice(&digest.bytes[..32]);
     bytes
+}
+
+/// Compares a chunk with its block hashes, MD5 first, then SHA-1, then SHA-256, and answers the first that differs.
+pub(crate) fn compare_chunk<F: Folder>(
+    alloc: Global,
+    folder: &mut F,
+    info: &Info,
+    chunk: u64,
+    out: &mut [u8],
+) -> Result<Option<Difference>, FolderError>
+    requires room { length out.old ≡ CHUNK }
+    requires fit { IsFit info.now }
+    requires low { chunk < chunk_count info.now.stream_size }
+    requires there { IsTrue F.tells → IsThere (F.held folder.old) info.now }
+    ensures found { IfOk result (λ found. IsTrue F.tells → MatchOption found (IsChunkSound (F.held folder.old) info.now.stream chunk) (IsFirstDifference (F.held folder.old) info.now.stream chunk)) }
+    ensures same { IsTrue F.tells → F.held folder.new ≡ F.held folder.old }
+    ensures cause { HasCause (F.folder_faults folder.old) (F.folder_faults folder.new) (IsErrOf result FolderError.Failed) }
+{
+    let count = match read_chunk(alloc, folder, info, chunk, out) {
+        Ok(count) => count,
+        Err(error) => return Err(error),
+    };
+    compare_all(alloc, folder, info, chunk, &out[..count])
+}
+
+// The same, of the bytes of a chunk.
+fn compare_all<F: Folder>(
+    alloc: Global,
+    folder: &mut F,
+    info: &Info,
+    chunk: u64,
+    bytes: &[u8],
+) -> Result<Option<Difference>, FolderError>
+    requires fit { IsFit info.now }
+    requires low { chunk < chunk_count info.now.stream_size }
+    requires there { IsTrue F.tells → IsThere (F.held folder.old) info.now }
+    requires chunk { IsTrue F.tells → bytes.now ≡ chunk_of (F.held folder.old) info.now.stream chunk }
+    ensures found { IfOk result (λ found. IsTrue F.tells → MatchOption found (IsChunkSound (F.held folder.old) info.now.stream chunk) (IsFirstDifference (F.held folder.old) info.now.stream chunk)) }
+    ensures same { IsTrue F.tells → F.held folder.new ≡ F.held folder.old }
+    ensures cause { HasCause (F.folder_faults folder.old) (F.folder_faults folder.new) (IsErrOf result FolderError.Failed) }
+{
+    match compare(alloc, folder, info, Hash::Md5, chunk, bytes) {
+        Ok(None) => (),
+        Ok(Some(difference)) => return Ok(Some(difference)),
+        Err(error) => return Err(error),
+    }
+    match compare(alloc, folder, info, Hash::Sha1, chunk, bytes) {
+        Ok(None) => (),
+        Ok(Some(difference)) => return Ok(Some(difference)),
+        Err(error) => return Err(error),
+    }
+    match compare(alloc, folder, info, Hash::Sha256, chunk, bytes) {
+        Ok(None) => Ok(None),
+        Ok(Some(difference)) => Ok(Some(difference)),
+        Err(error) => Err(error),
+    }
 }
 
 // Compares the bytes of a chunk with the digest that is recorded of it under one hash function.

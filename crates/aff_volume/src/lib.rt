@@ -5,9 +5,11 @@
 //! for.
 #![tactic(auto)]
 
+mod block_map;
 mod chunk;
 mod error;
 mod kinds;
+mod linear;
 mod listed;
 mod metadata;
 mod read;
@@ -20,5 +22,6 @@ mod tables;
 mod tests;
 mod volume;
 
+pub use chunk::Difference;
 pub use error::{VolumeError, VolumeReadError};
 pub use volume::Volume;

@@ -343,3 +343,84 @@ fn each_call_fails_once(rt: HostRuntime) -> Result<(), Fail> {
     }
     Ok(())
 }
+
+/// Whether the linear hashes and the block map hash of a folder are the recorded ones.
+fn agreement<F: Folder>(alloc: Global, folder: &mut F) -> Result<(bool, bool), Fail> {
+    let Ok(volume) = Volume::open(alloc, folder) else {
+        return Err("not opened")?;
+    };
+    let Ok(linear) = volume.linear(alloc, folder) else {
+        return Err("no linear hashes")?;
+    };
+    let Ok(block_map) = volume.block_map(alloc, folder) else {
+        return Err("no block map hash")?;
+    };
+    let info = volume.info();
+    Ok((linear == info.linear, block_map == info.block_map))
+}
+
+#[test]
+fn digests_are_those_of_another_program(rt: HostRuntime) -> Result<(), Fail> {
+    let alloc = rt.alloc();
+    let idx = format!(in alloc; "{IDX}http://aff4.org/Schema#UnknownData")?;
+    let map = write_entries(alloc, &ENTRIES[..2]).map_err(|_| "no map")?;
+    let rows: [(Change<'_>, (bool, bool)); 3] = [
+        (Change::Nothing, (true, true)),
+        (Change::Has("idx", idx.as_bytes()), (true, false)),
+        (Change::Has("map", &map), (false, false)),
+    ];
+    for (change, expected) in rows {
+        let mut folder = sample(alloc, Vec::new(alloc), change)?;
+        assert_eq!(rt; agreement(alloc, &mut folder)?, expected);
+    }
+    Ok(())
+}
+
+/// The hash function under which a chunk of a folder differs first.
+fn first_difference<F: Folder>(
+    alloc: Global,
+    folder: &mut F,
+    chunk: u64,
+) -> Result<Option<Hash>, Fail> {
+    let Ok(volume) = Volume::open(alloc, folder) else {
+        return Err("not opened")?;
+    };
+    if chunk >= volume.chunks() {
+        return Err("no such chunk")?;
+    }
+    let mut room = filled(alloc, 0, 32_768)?;
+    match volume.compare_chunk(alloc, folder, chunk, &mut room) {
+        Ok(Some(difference)) => Ok(Some(difference.found.kind)),
+        Ok(None) => Ok(None),
+        Err(_) => Err("not read")?,
+    }
+}
+
+#[test]
+fn a_chunk_is_compared_by_md5_first(rt: HostRuntime) -> Result<(), Fail> {
+    let alloc = rt.alloc();
+    let bytes = stream(alloc)?;
+    let (first, _) = sums_of_halves(bytes.as_slice());
+    let mut changed = stream(alloc)?;
+    changed[65_535] = 8;
+    let sha1 = pair(alloc, &first.sha1, &first.sha1)?;
+    let sha256 = pair(alloc, &first.sha256, &first.sha256)?;
+    let rows: [(Change<'_>, Option<Hash>); 4] = [
+        (Change::Nothing, None),
+        (Change::Has("00000000", &changed), Some(Hash::Md5)),
+        (
+            Change::Has("00000000.blockHash.sha1", &sha1),
+            Some(Hash::Sha1),
+        ),
+        (
+            Change::Has("00000000.blockHash.sha256", &sha256),
+            Some(Hash::Sha256),
+        ),
+    ];
+    for (change, expected) in rows {
+        let mut folder = sample(alloc, Vec::new(alloc), change)?;
+        assert_eq!(rt; first_difference(alloc, &mut folder, 0)?, None);
+        assert_eq!(rt; first_difference(alloc, &mut folder, 1)?, expected);
+    }
+    Ok(())
+}

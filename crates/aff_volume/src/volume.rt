@@ -1,27 +1,38 @@
 //! A volume that was opened.
-ghost use Rattle.std.specs.Prelude.{◌≡◌, ◌+◌, ◌≤◌, Some, length, IfOk, IfErr, OnOk, IsErr, IsErrOf, IsTrue};
+ghost use Rattle.std.specs.Prelude.{◌≡◌, ℕ, ◌+◌, ◌<◌, ◌≤◌, List, Some, length, IfOk, IfErr, OnOk, IsErr, IsErrOf, IsTrue, MatchOption};
+ghost use Rattle.sha2.specs.Sha512.{sha512};
 ghost use Rattle.aff_model.specs.Causes.{HasCause};
 ghost use Rattle.aff_model.specs.Held.{bytes_of, lengths};
+ghost use Rattle.aff_model.specs.Plan.{chunk_count};
 ghost use Rattle.aff_info.specs.Found.{Found};
 ghost use Rattle.aff_bevvy.specs.Segments.{held_length};
+ghost use Rattle.aff_finish.specs.BlockMap.{block_map_digests};
+ghost use Rattle.aff_linear.specs.Feeds.{AreDigestsOf};
+ghost use Rattle.aff_spec.specs.Bevvies.{bevvy_count};
 ghost use Rattle.aff_spec.specs.Names.{idx_name, map_name};
+ghost use Rattle.aff_spec.specs.Volumes.{volume_bytes};
+ghost use Rattle.aff_volume.specs.Agreement.{IsChunkSound, IsFirstDifference};
 ghost use Rattle.aff_volume.specs.Opened.{IsFit, IsOver, IsThere, IsVolumeOf, IsWholeVolume, map_in};
 ghost use Rattle.aff_volume.specs.Refusals.{IsAbsent, IsOfCall, IsVolumeRefused};
 ghost use Rattle.aff_volume.specs.Image.{named_by};
 ghost use Rattle.aff_volume.specs.Reading.{AreBytes, IsReadError};
 ghost use Rattle.aff_volume.specs.Parts.{AreParts, Reads};
 
+use crate::block_map::hash_block_map;
+use crate::chunk::compare_chunk;
 use crate::error::{of_folder, of_stream};
+use crate::linear::hash_image;
 use crate::metadata::read_info;
 use crate::read::read_image;
 use crate::segments::{Tables, check_hashes, count_chunks, tables_of};
 use crate::tables::read_map;
-use crate::{VolumeError, VolumeReadError};
+use crate::{Difference, VolumeError, VolumeReadError};
 use aff_bevvy::StreamReader;
+use aff_hash::Digests;
 use aff_info::{Info, InfoRead};
 use aff_map::Map;
 use aff_model::CHUNK;
-use aff_outside::{Folder, Segment};
+use aff_outside::{Folder, FolderError, Segment};
 use std::alloc::Global;
 use std::marker::Model;
 
@@ -89,6 +100,60 @@ impl Volume {
         ensures cause { HasCause (F.folder_faults folder.old) (F.folder_faults folder.new) (IsErrOf result VolumeReadError.Failed) }
     {
         read_image(alloc, folder, &self.info, &self.map, at, out)
+    }
+
+    /// The digests of all bytes of the image, one after another, from the folder as it was when the volume was opened. No
+    /// block hash is looked at. Memory is one piece of 1 MiB.
+    pub fn linear<F: Folder>(&self, alloc: Global, folder: &mut F) -> Result<Digests, FolderError>
+        requires { IsTrue F.tells → IsVolumeOf (F.held folder.old) self.now }
+        ensures linear { IfOk result (λ digests. (hashed : List ℕ) × AreDigestsOf digests hashed
+            × (IsTrue F.tells → hashed ≡ volume_bytes (F.held folder.old) (named_by self.now.info) self.now.info.image_size)) }
+        ensures same { IsTrue F.tells → F.held folder.new ≡ F.held folder.old }
+        ensures cause { HasCause (F.folder_faults folder.old) (F.folder_faults folder.new) (IsErrOf result FolderError.Failed) }
+    {
+        hash_image(alloc, folder, &self.info, &self.map, &self.reader)
+    }
+
+    /// The block map hash, from the block hashes, the map and the list of its targets as they stand, in the folder as it was
+    /// when the volume was opened. Memory is one buffer of 64 KiB.
+    pub fn block_map<F: Folder>(
+        &self,
+        alloc: Global,
+        folder: &mut F,
+    ) -> Result<[u8; 64], FolderError>
+        requires { IsTrue F.tells → IsVolumeOf (F.held folder.old) self.now }
+        ensures hash { IfOk result (λ hash. (digests : List ℕ) × (hash ≡ sha512 digests)
+            × (IsTrue F.tells → digests ≡ block_map_digests (F.held folder.old) self.now.info.stream self.now.info.image (bevvy_count (chunk_count self.now.info.stream_size)))) }
+        ensures same { IsTrue F.tells → F.held folder.new ≡ F.held folder.old }
+        ensures cause { HasCause (F.folder_faults folder.old) (F.folder_faults folder.new) (IsErrOf result FolderError.Failed) }
+    {
+        hash_block_map(alloc, folder, &self.info, self.tables)
+    }
+
+    /// How many chunks the stream has.
+    pub fn chunks(&self) -> u64
+        ensures { result ≡ chunk_count self.now.info.stream_size }
+    {
+        count_chunks(self.info.stream_size)
+    }
+
+    /// Compares a chunk with its block hashes, MD5 first, then SHA-1, then SHA-256, in the folder as it was when the volume
+    /// was opened, and answers the first that differs. `room` is where the chunk is read, 32,768 bytes.
+    pub fn compare_chunk<F: Folder>(
+        &self,
+        alloc: Global,
+        folder: &mut F,
+        chunk: u64,
+        room: &mut [u8],
+    ) -> Result<Option<Difference>, FolderError>
+        requires room { length room.old ≡ CHUNK }
+        requires low { chunk < chunk_count self.now.info.stream_size }
+        requires opened { IsTrue F.tells → IsVolumeOf (F.held folder.old) self.now }
+        ensures found { IfOk result (λ found. IsTrue F.tells → MatchOption found (IsChunkSound (F.held folder.old) self.now.info.stream chunk) (IsFirstDifference (F.held folder.old) self.now.info.stream chunk)) }
+        ensures same { IsTrue F.tells → F.held folder.new ≡ F.held folder.old }
+        ensures cause { HasCause (F.folder_faults folder.old) (F.folder_faults folder.new) (IsErrOf result FolderError.Failed) }
+    {
+        compare_chunk(alloc, folder, &self.info, chunk, room)
     }
 
     /// How many statements of the metadata are kept aside, since they name nothing of the volume.

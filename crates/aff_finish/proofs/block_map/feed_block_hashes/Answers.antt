@@ -1,7 +1,7 @@
 use Rattle.std.proofs.Common.{sym, subst, ◌∙◌}
 use Rattle.aff_finish.specs.Kept.{HasKept}
 use Rattle.aff_finish.specs.declared.block_map.Kept.TheVariants.{Md5, Sha1, Sha256}
-use Rattle.aff_finish.proofs.block_map.feed_all_kept.Goals as goal
+use Rattle.aff_finish.proofs.block_map.feed_block_hashes.Goals as goal
 
 pub feed_kept-requires-clause-there : goal.feed_kept-requires-clause-there
 feed_kept-requires-clause-there g c κs within = λ t. c.requires.there t Md5
