@@ -26,7 +26,7 @@ module _ (ws : List (Bor (List ℕ))) (d : Bor (List ℕ)) (block : ℕ) (is : I
 empty : (n : ℕ) → n ≡ 0 → (n == 0) ≡ true
 empty n is = ap (λ m. m == 0) is
 
-no_length : (xs : List ℕ) → (length xs == 0) ≡ true → xs ≡ []
+pub no_length : (xs : List ℕ) → (length xs == 0) ≡ true → xs ≡ []
 no_length [] is = refl
 no_length (x ∷ xs) is = grind (arith, is)
 

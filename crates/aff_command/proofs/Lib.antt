@@ -1,2 +1,4 @@
 pub mod Shown
 pub mod FourWords
+pub mod FolderWords
+pub mod NoMachine

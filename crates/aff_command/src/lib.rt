@@ -2,13 +2,15 @@
 #![tactic(auto)]
 
 mod devices;
+mod finished;
 mod line;
 mod wanted;
 mod words;
 
 pub use devices::{Refusal, first_block, first_size, refused};
+pub use finished::offline;
 pub use line::refusal_line;
-pub use wanted::Outside;
+pub use wanted::{Offline, Outside};
 pub use words::{acquisition, outside};
 
 #[cfg(test)]

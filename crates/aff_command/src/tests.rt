@@ -1,6 +1,6 @@
 ghost use Rattle.std.specs.Prelude.{None};
 
-use crate::{acquisition, refusal_line, refused};
+use crate::{Offline, Outside, acquisition, offline, outside, refusal_line, refused};
 use aff_outside::{Device, DeviceFailed};
 use std::alloc::Global;
 use std::test::Fail;
@@ -110,6 +110,43 @@ fn an_acquisition_has_one_device_or_more(rt: HostRuntime) -> Result<(), Fail> {
     ];
     for words in others {
         assert!(rt; acquisition(words).is_none());
+    }
+    Ok(())
+}
+
+#[test]
+fn a_finished_volume_is_asked_by_its_words(rt: HostRuntime) -> Result<(), Fail> {
+    let rows: [(&[&str], Option<Offline>); 14] = [
+        (&["info", "F"], Some(Offline::Info)),
+        (&["info", "--help"], Some(Offline::Info)),
+        (&["verify", "F"], Some(Offline::Verify)),
+        (
+            &["read", "F", "0", "1048577"],
+            Some(Offline::Read {
+                at: 0,
+                len: 1_048_577,
+            }),
+        ),
+        (
+            &["read", "F", "18446744073709551615", "0"],
+            Some(Offline::Read {
+                at: u64::MAX,
+                len: 0,
+            }),
+        ),
+        (&["read", "F", "01", "1"], None),
+        (&["read", "F", "1", "+1"], None),
+        (&["read", "F", "18446744073709551616", "1"], None),
+        (&["read", "F", "1"], None),
+        (&["read", "", "1", "1"], None),
+        (&["info"], None),
+        (&["info", ""], None),
+        (&["info", "F", "F"], None),
+        (&["rehearse", "64", "4"], None),
+    ];
+    for (words, expected) in rows {
+        assert_eq!(rt; offline(words), expected);
+        assert_eq!(rt; outside(words), expected.map(|_| Outside::Offline));
     }
     Ok(())
 }

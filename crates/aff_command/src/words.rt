@@ -1,8 +1,10 @@
 //! The words of a command line.
 ghost use Rattle.std.specs.Prelude.{◌≡◌, ◌==◌, ℕ, length, map, IfSome, IfNone};
 ghost use Rattle.std.specs.List.{list_any};
-ghost use Rattle.aff_command.specs.CommandLine.{AreAcquire, IsAcquire, IsCommand, uuid_of};
+ghost use Rattle.aff_command.specs.CommandLine.{IsAcquire, IsCommand, uuid_of};
+ghost use Rattle.aff_command.specs.Wanted.{IsFor};
 
+use crate::finished::offline;
 use crate::wanted::Outside;
 use aff_model::{LARGE_BLOCK, SECTOR};
 use aff_names::Uuid;
@@ -24,7 +26,8 @@ fn block_of(command: &str) -> Option<u32>
     }
 }
 
-fn has_empty(words: &[&str]) -> bool
+/// Whether a word is empty.
+pub(crate) fn has_empty(words: &[&str]) -> bool
     ensures { result ≡ list_any (λ w. length w.now == 0) words.now }
 {
     words.iter().any(|word| word.is_empty())
@@ -51,18 +54,20 @@ pub fn acquisition(words: &[&str]) -> Option<(u32, Uuid)>
     Some((block, uuid))
 }
 
-/// What main is to make for these words. It takes no memory.
+/// What main is to make for these words: devices for an acquisition, none for what is asked of a finished volume. It
+/// takes no memory.
 pub fn outside(words: &[&str]) -> Option<Outside>
-    ensures some { IfSome result (λ o. (block : ℕ) × IsAcquire block (map (λ w. w.now) words.now) × (o ≡ Outside.Acquire 3 block)) }
-    ensures none { IfNone result (¬ (AreAcquire (map (λ w. w.now) words.now))) }
+    ensures some { IfSome result (λ o. IsFor o (map (λ w. w.now) words.now)) }
+    ensures none { IfNone result ((o : Outside) → ¬ (IsFor o (map (λ w. w.now) words.now))) }
 {
-    match acquisition(words) {
-        Some((block, _)) => {
-            Some(Outside::Acquire {
-                first_device: FIRST_DEVICE,
-                block,
-            })
-        }
+    if let Some((block, _)) = acquisition(words) {
+        return Some(Outside::Acquire {
+            first_device: FIRST_DEVICE,
+            block,
+        });
+    }
+    match offline(words) {
+        Some(_) => Some(Outside::Offline),
         None => None,
     }
 }

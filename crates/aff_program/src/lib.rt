@@ -1,8 +1,9 @@
 //! What the program does over a machine: its words, the devices that they name, a folder and the standard streams are
-//! handed to the top call. A program's main calls `run` and ends with its status.
+//! handed to the top call. A program's main calls `run` and ends with its status; `run_for`
+//! takes the words from its caller.
 #![tactic(auto)]
 
 mod machine;
 mod words;
 
-pub use machine::run;
+pub use machine::{run, run_for};

@@ -1,2 +1,4 @@
+pub mod Damage
 pub mod Runs
+pub mod Sessions
 pub mod Words

@@ -127,8 +127,8 @@ fn an_extent_of_part_of_a_block(rt: HostRuntime) -> Result<(), Fail> {
 
 #[test]
 fn a_script_is_refused_behind_the_plan(rt: HostRuntime) -> Result<(), Fail> {
-    let text = b"extent 0 512 0\nsession\nread 0 1\nsession\n";
-    is_refused(&rt, text, "error script 2 shape\n", false)?;
+    let text = b"extent 0 512 0\nsession\nread 0 12289\nsession\n";
+    is_refused(&rt, text, "error script 3 pastend\n", false)?;
     let text = b"extent 0 513 0\nsession\n";
     is_refused(&rt, text, "error plan 1 sector\n", false)
 }

@@ -93,10 +93,10 @@ fn calls<W: Alloc<A = Global> + Threads + Wait + Sync>(rt: &W) -> Result<u64, Fa
 #[test]
 fn faults_of_the_folder(rt: HostRuntime) -> Result<(), Fail> {
     let alloc = rt.alloc();
-    // The list; the chunk, its index and three digests, the map, the targets; what is read back: the chunk, three
+    // The list; the sessions' peeks; the chunk, its index and three digests, the map, the targets; what is read back: the chunk, three
     // digests, the map, the targets; the version, the volume's URN and its metadata.
-    assert_eq!(rt; calls(&rt)?, 17);
-    for folder in 1..18 {
+    assert_eq!(rt; calls(&rt)?, 18);
+    for folder in 1..19 {
         let mut ran = run(&rt, TEXT, card(alloc, 1)?, Faults { folder, ..NONE })?;
         wrote(&ran, 6, "error folder\n")?;
         assert!(rt;

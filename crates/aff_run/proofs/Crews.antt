@@ -1,78 +1,157 @@
 -- Tasks, and the devices that they have.
-use Rattle.std.proofs.Common.{◌≡◌, ℕ, zero, suc, ◌+◌, ◌<◌, ◌≤◌, List, [], ◌∷◌, ◌++◌, length, take, refl, sym, ap, subst, ◌∙◌, arith}
-use Rattle.std.specs.Prelude.{All, Option, Some, slice_index_or}
+use Rattle.std.proofs.Common.{◌≡◌, ℕ, zero, suc, ◌+◌, ◌<◌, ◌≤◌, List, [], ◌∷◌, ◌++◌, append-nil, append_assoc, length, map, take, refl, sym, ap, subst, ◌∙◌, arith}
+use Rattle.std.specs.Prelude.{All, Bool, Option, Some, slice_index_or}
 use Rattle.std.proofs.lemmas.List.{take_at}
-use Rattle.std.proofs.lemmas.List.Elements.{All-pop, All-push}
+use Rattle.std.proofs.lemmas.List.Elements.{All-cons, All-nil, All-pop, All-push}
 use Rattle.std.specs.declared.dyn_box.DynBox.{DynBox}
 use Rattle.std.specs.declared.alloc.Global.{Global}
 use Rattle.aff_model.specs.Content.{Content}
 use Rattle.aff_model.specs.Plan.{Planned}
 use Rattle.aff_claim.specs.Values.{Claiming}
+use Rattle.aff_session.specs.Sittings.{Sitting}
+use Rattle.aff_snapshot.specs.Lists.{ListName}
+use Rattle.aff_run.specs.declared.tasks.Job.{Job}
+use Rattle.aff_run.specs.declared.tasks.Job.TheVariants.{Ready, Ended, Taken}
 use Rattle.aff_run.specs.declared.tasks.Task.{Task}
-use Rattle.aff_run.specs.declared.tasks.Task.TheVariants.{Ready, Ended, Taken}
+use Rattle.aff_run.specs.declared.tasks.Task.TheVariants.{Work, Look}
 use Rattle.aff_worker.specs.declared.worker.Worker.{Worker}
 use Rattle.aff_outside.specs.Kept.{IsSameDevice}
 use Rattle.aff_run.specs.Devices.{AreKept, Fits}
-use Rattle.aff_run.specs.Tasks.{CanRun, HasRun, devices_of}
+use Rattle.aff_run.specs.Sessions.{HasLived, IsFresh}
+use Rattle.aff_run.specs.Tasks.{CanRun, HasRun, device_in, devices_of, sessions_of}
 use Rattle.aff_run.proofs.Keeping.{Along, kept_along}
 
-module _ {X : Type 0} {G : X → Type 0} (content : DynBox X Global G → Option Content) (block size faults : DynBox X Global G → ℕ) where
+module _ {X : Type 0} {G : X → Type 0} {Y Z R P : Type 0} (content : DynBox X Global G → Option Content) (block size faults : DynBox X Global G → ℕ) where
   -- what is needed of a task of a list
-  pub can_at : (claims : Claiming) (workers : ℕ) (case : Option Content) (plan : Planned) (tasks : List (Task X G)) (k : ℕ) (task : Task X G) → k < length tasks → task ≡ slice_index_or tasks k task
-      → All (CanRun claims workers case plan content block size) tasks → CanRun claims workers case plan content block size task
-  can_at claims workers case plan tasks k task below is all = subst (CanRun claims workers case plan content block size) (sym is) (all k task below)
+  pub can_at : (list : ListName) (claims : Claiming) (workers : ℕ) (case : Option Content) (plan : Planned) (tasks : List (Task Y Z R P X G)) (k : ℕ) (task : Task Y Z R P X G) → k < length tasks → task ≡ slice_index_or tasks k task
+      → All (CanRun list claims workers case plan content block size) tasks → CanRun list claims workers case plan content block size task
+  can_at list claims workers case plan tasks k task below is all = subst (CanRun list claims workers case plan content block size) (sym is) (all k task below)
 
-  pub same_can : (claims : Claiming) (workers : ℕ) (case : Option Content) (plan : Planned) (tasks slice : List (Task X G)) → slice ≡ tasks → All (CanRun claims workers case plan content block size) tasks
-      → All (CanRun claims workers case plan content block size) slice
-  same_can claims workers case plan tasks slice is all = subst (All (CanRun claims workers case plan content block size)) (sym is) all
+  pub same_can : (list : ListName) (claims : Claiming) (workers : ℕ) (case : Option Content) (plan : Planned) (tasks slice : List (Task Y Z R P X G)) → slice ≡ tasks → All (CanRun list claims workers case plan content block size) tasks
+      → All (CanRun list claims workers case plan content block size) slice
+  same_can list claims workers case plan tasks slice is all = subst (All (CanRun list claims workers case plan content block size)) (sym is) all
 
-  -- tasks that have run keep their devices
-  ran_along : (olds news : List (Task X G)) → length news ≡ length olds
-      → ((k : ℕ) (d : Task X G) → k < length olds → HasRun content block size faults (slice_index_or olds k d) (slice_index_or news k d))
-      → Along (λ d e. IsSameDevice content block size faults d e) (devices_of olds) (devices_of news)
-  ran_along [] [] len each = tt
-  ran_along [] (y ∷ news) len each = absurd (omega (arith, len))
-  ran_along (x ∷ olds) [] len each = absurd (omega (arith, len))
-  ran_along (Ready w ∷ olds) (Ended e ∷ news) len each = (each zero Taken (omega arith), ran_along olds news (omega (arith, len)) (λ k d below. each (suc k) d (omega (arith, below))))
-  ran_along (Ready w ∷ olds) (Ready v ∷ news) len each = absurd (each zero Taken (omega arith))
-  ran_along (Ready w ∷ olds) (Taken ∷ news) len each = absurd (each zero Taken (omega arith))
-  ran_along (Ended e ∷ olds) (y ∷ news) len each = absurd (each zero Taken (omega arith))
-  ran_along (Taken ∷ olds) (y ∷ news) len each = absurd (each zero Taken (omega arith))
+  module _ (list : ListName) (plan : Planned) (tells : Bool) (told : R → List ℕ) (peeks : P → ℕ) where
+    -- tasks have run
+    abbrev pub Ran : List (Task Y Z R P X G) → List (Task Y Z R P X G) → Type 0
+    Ran olds news = (k : ℕ) (d : Task Y Z R P X G) → k < length olds → HasRun list plan tells told peeks content block size faults (slice_index_or olds k d) (slice_index_or news k d)
 
-  pub ran_kept : (olds news : List (Task X G)) → length news ≡ length olds
-      → ((k : ℕ) (d : Task X G) → k < length olds → HasRun content block size faults (slice_index_or olds k d) (slice_index_or news k d))
-      → AreKept content block size faults (devices_of olds) (devices_of news)
-  ran_kept olds news len each = kept_along content block size faults (devices_of olds) (devices_of news) (ran_along olds news len each)
+    -- their devices are kept
+    ran_along : (olds news : List (Task Y Z R P X G)) → length news ≡ length olds → Ran olds news → Along (λ d e. IsSameDevice content block size faults d e) (devices_of olds) (devices_of news)
+    ran_along [] [] len each = tt
+    ran_along [] (y ∷ news) len each = absurd (omega (arith, len))
+    ran_along (x ∷ olds) [] len each = absurd (omega (arith, len))
+    ran_along (Work (Ready w) ∷ olds) (Work (Ended e) ∷ news) len each = (each zero (Work Taken) (omega arith), ran_along olds news (omega (arith, len)) (λ k d below. each (suc k) d (omega (arith, below))))
+    ran_along (Work (Ready w) ∷ olds) (Work (Ready v) ∷ news) len each = absurd (each zero (Work Taken) (omega arith))
+    ran_along (Work (Ready w) ∷ olds) (Work Taken ∷ news) len each = absurd (each zero (Work Taken) (omega arith))
+    ran_along (Work (Ready w) ∷ olds) (Look n s ∷ news) len each = absurd (each zero (Work Taken) (omega arith))
+    ran_along (Work (Ended e) ∷ olds) (Work job ∷ news) len each = absurd (each zero (Work Taken) (omega arith))
+    ran_along (Work (Ended e) ∷ olds) (Look n s ∷ news) len each = absurd (each zero (Work Taken) (omega arith))
+    ran_along (Work Taken ∷ olds) (Work job ∷ news) len each = absurd (each zero (Work Taken) (omega arith))
+    ran_along (Work Taken ∷ olds) (Look n s ∷ news) len each = absurd (each zero (Work Taken) (omega arith))
+    ran_along (Look n s ∷ olds) (Work job ∷ news) len each = absurd (each zero (Work Taken) (omega arith))
+    ran_along (Look n s ∷ olds) (Look m t ∷ news) len each = ran_along olds news (omega (arith, len)) (λ k d below. each (suc k) d (omega (arith, below)))
 
-  -- and so do the devices that come back of them
-  pub back_kept : (olds slice news rest : List (Task X G)) (n : ℕ) (devices back : List (DynBox X Global G)) → slice ≡ olds → length slice ≡ n → length news ≡ length slice
-      → ((k : ℕ) (d : Task X G) → k < length slice → HasRun content block size faults (slice_index_or slice k d) (slice_index_or news k d)) → devices_of olds ≡ devices → back ≡ devices_of (take n (news ++ rest))
-      → AreKept content block size faults devices back
-  back_kept olds slice news rest n devices back same len count each was is =
-      let now : back ≡ devices_of news = is ∙ ap devices_of (take_at news rest n (count ∙ len)) in
-      subst (λ l. AreKept content block size faults devices l) (sym now)
-      (subst (λ l. AreKept content block size faults l (devices_of news)) (ap devices_of same ∙ was) (ran_kept slice news count each))
+    -- their sessions have lived
+    pub ran_lived : (olds news : List (Task Y Z R P X G)) → length news ≡ length olds → Ran olds news → All (λ s. HasLived plan list tells told peeks s) (sessions_of news)
+    ran_lived [] [] len each = All-nil _
+    ran_lived [] (y ∷ news) len each = absurd (omega (arith, len))
+    ran_lived (x ∷ olds) [] len each = absurd (omega (arith, len))
+    ran_lived (Work job ∷ olds) (Work after ∷ news) len each = ran_lived olds news (omega (arith, len)) (λ k d below. each (suc k) d (omega (arith, below)))
+    ran_lived (Work job ∷ olds) (Look n s ∷ news) len each = absurd (each zero (Work Taken) (omega arith))
+    ran_lived (Look n s ∷ olds) (Work job ∷ news) len each = absurd (each zero (Work Taken) (omega arith))
+    ran_lived (Look n s ∷ olds) (Look m t ∷ news) len each =
+        All-cons (λ s. HasLived plan list tells told peeks s) t (sessions_of news) (each zero (Work Taken) (omega arith)).0 (ran_lived olds news (omega (arith, len)) (λ k d below. each (suc k) d (omega (arith, below))))
 
-module _ {X : Type 0} {G : X → Type 0} where
+    -- of the same requests
+    pub ran_asked : (olds news : List (Task Y Z R P X G)) → length news ≡ length olds → Ran olds news → map (λ s. s.requests) (sessions_of news) ≡ map (λ s. s.requests) (sessions_of olds)
+    ran_asked [] [] len each = refl
+    ran_asked [] (y ∷ news) len each = absurd (omega (arith, len))
+    ran_asked (x ∷ olds) [] len each = absurd (omega (arith, len))
+    ran_asked (Work job ∷ olds) (Work after ∷ news) len each = ran_asked olds news (omega (arith, len)) (λ k d below. each (suc k) d (omega (arith, below)))
+    ran_asked (Work job ∷ olds) (Look n s ∷ news) len each = absurd (each zero (Work Taken) (omega arith))
+    ran_asked (Look n s ∷ olds) (Work job ∷ news) len each = absurd (each zero (Work Taken) (omega arith))
+    ran_asked (Look n s ∷ olds) (Look m t ∷ news) len each = λ i. (each zero (Work Taken) (omega arith)).1 i ∷ ran_asked olds news (omega (arith, len)) (λ k d below. each (suc k) d (omega (arith, below))) i
+
+    pub ran_kept : (olds news : List (Task Y Z R P X G)) → length news ≡ length olds → Ran olds news → AreKept content block size faults (devices_of olds) (devices_of news)
+    ran_kept olds news len each = kept_along content block size faults (devices_of olds) (devices_of news) (ran_along olds news len each)
+
+    -- what comes back of tasks that have run
+    pub back_kept : (olds slice news rest : List (Task Y Z R P X G)) (n : ℕ) (devices back : List (DynBox X Global G)) → slice ≡ olds → length slice ≡ n → length news ≡ length slice
+        → Ran slice news → devices_of olds ≡ devices → back ≡ devices_of (take n (news ++ rest)) → AreKept content block size faults devices back
+    back_kept olds slice news rest n devices back same len count each was is =
+        let now : back ≡ devices_of news = is ∙ ap devices_of (take_at news rest n (count ∙ len)) in
+        subst (λ l. AreKept content block size faults devices l) (sym now)
+        (subst (λ l. AreKept content block size faults l (devices_of news)) (ap devices_of same ∙ was) (ran_kept slice news count each))
+
+    pub back_lived : (slice news rest : List (Task Y Z R P X G)) (n : ℕ) (back : List (Sitting R P)) → length slice ≡ n → length news ≡ length slice → Ran slice news
+        → back ≡ sessions_of (take n (news ++ rest)) → All (λ s. HasLived plan list tells told peeks s) back
+    back_lived slice news rest n back len count each is =
+        let now : back ≡ sessions_of news = is ∙ ap sessions_of (take_at news rest n (count ∙ len)) in
+        subst (All (λ s. HasLived plan list tells told peeks s)) (sym now) (ran_lived slice news count each)
+
+    pub back_asked : (olds slice news rest : List (Task Y Z R P X G)) (n : ℕ) (sessions back : List (Sitting R P)) → slice ≡ olds → length slice ≡ n → length news ≡ length slice
+        → Ran slice news → sessions_of olds ≡ sessions → back ≡ sessions_of (take n (news ++ rest)) → map (λ s. s.requests) back ≡ map (λ s. s.requests) sessions
+    back_asked olds slice news rest n sessions back same len count each was is =
+        let now : back ≡ sessions_of news = is ∙ ap sessions_of (take_at news rest n (count ∙ len)) in
+        ap (map (λ s. s.requests)) now ∙ (ran_asked slice news count each ∙ ap (map (λ s. s.requests)) (ap sessions_of same ∙ was))
+
+module _ {X : Type 0} {G : X → Type 0} {Y Z R P : Type 0} where
   -- the devices with those of a task more
-  pub devices_push : (tasks : List (Task X G)) (task : Task X G) → devices_of (tasks ++ task ∷ []) ≡ devices_of tasks ++ devices_of (task ∷ [])
+  pub devices_push : (tasks : List (Task Y Z R P X G)) (task : Task Y Z R P X G) → devices_of (tasks ++ task ∷ []) ≡ devices_of tasks ++ devices_of (task ∷ [])
   devices_push [] task = refl
-  devices_push (Ready w ∷ tasks) task = ap (λ l. w.device ∷ l) (devices_push tasks task)
-  devices_push (Ended e ∷ tasks) task = ap (λ l. e.device ∷ l) (devices_push tasks task)
-  devices_push (Taken ∷ tasks) task = devices_push tasks task
+  devices_push (Work job ∷ tasks) task = ap (λ l. device_in job ++ l) (devices_push tasks task) ∙ sym (append_assoc (device_in job) (devices_of tasks) (devices_of (task ∷ [])))
+  devices_push (Look n s ∷ tasks) task = devices_push tasks task
+
+  -- and the sessions
+  pub sessions_push : (tasks : List (Task Y Z R P X G)) (task : Task Y Z R P X G) → sessions_of (tasks ++ task ∷ []) ≡ sessions_of tasks ++ sessions_of (task ∷ [])
+  sessions_push [] task = refl
+  sessions_push (Work job ∷ tasks) task = sessions_push tasks task
+  sessions_push (Look n s ∷ tasks) task = ap (λ l. s ∷ l) (sessions_push tasks task)
 
   -- and with those of a worker more
-  pub staffed : (tasks news : List (Task X G)) (w : Worker X G) (devices : List (DynBox X Global G)) → news ≡ tasks ++ Ready w ∷ [] → devices_of tasks ≡ devices → devices_of news ≡ devices ++ w.device ∷ []
-  staffed tasks news w devices more is = ap devices_of more ∙ (devices_push tasks (Ready w) ∙ ap (λ l. l ++ w.device ∷ []) is)
+  pub staffed : (tasks news : List (Task Y Z R P X G)) (w : Worker X G) (devices : List (DynBox X Global G)) → news ≡ tasks ++ Work (Ready w) ∷ [] → devices_of tasks ≡ devices → devices_of news ≡ devices ++ w.device ∷ []
+  staffed tasks news w devices more is = ap devices_of more ∙ (devices_push tasks (Work (Ready w)) ∙ ap (λ l. l ++ w.device ∷ []) is)
+
+  -- with no session more
+  pub staffed_sessions : (tasks news : List (Task Y Z R P X G)) (w : Worker X G) → news ≡ tasks ++ Work (Ready w) ∷ [] → sessions_of tasks ≡ [] → sessions_of news ≡ []
+  staffed_sessions tasks news w more is = ap sessions_of more ∙ (sessions_push tasks (Work (Ready w)) ∙ ap (λ l. l ++ []) is)
 
   -- who can run as before, where its device fits
-  pub staffed_can : (content : DynBox X Global G → Option Content) (block size : DynBox X Global G → ℕ) (claims : Claiming) (workers : ℕ) (case : Option Content) (plan : Planned) (tasks news : List (Task X G)) (w : Worker X G)
-      → news ≡ tasks ++ Ready w ∷ [] → w.pass.claims ≡ claims → w.pass.view.number < workers
-      → (All (λ d. Fits case plan content block size d) (devices_of tasks) → All (CanRun claims workers case plan content block size) tasks)
-      → All (λ d. Fits case plan content block size d) (devices_of news) → All (CanRun claims workers case plan content block size) news
-  staffed_can content block size claims workers case plan tasks news w more same number before fit =
+  pub staffed_can : (content : DynBox X Global G → Option Content) (block size : DynBox X Global G → ℕ) (list : ListName) (claims : Claiming) (workers : ℕ) (case : Option Content) (plan : Planned) (tasks news : List (Task Y Z R P X G)) (w : Worker X G)
+      → news ≡ tasks ++ Work (Ready w) ∷ [] → w.pass.claims ≡ claims → w.pass.view.number < workers
+      → (All (λ d. Fits case plan content block size d) (devices_of tasks) → All (CanRun list claims workers case plan content block size) tasks)
+      → All (λ d. Fits case plan content block size d) (devices_of news) → All (CanRun list claims workers case plan content block size) news
+  staffed_can content block size list claims workers case plan tasks news w more same number before fit =
       let both = All-pop (λ d. Fits case plan content block size d) (devices_of news) (devices_of tasks) (Some w.device) (staffed tasks news w (devices_of tasks) more refl) fit in
-      subst (All (CanRun claims workers case plan content block size)) (sym more) (All-push (CanRun claims workers case plan content block size) tasks (Ready w) (before both.0) (same, number, both.1))
+      subst (All (CanRun list claims workers case plan content block size)) (sym more) (All-push (CanRun list claims workers case plan content block size) tasks (Work (Ready w)) (before both.0) (same, number, both.1))
+
+  -- a session more
+  pub seated : (tasks news : List (Task Y Z R P X G)) (n : ℕ) (s : Sitting R P) (sessions : List (Sitting R P)) → news ≡ tasks ++ Look n s ∷ [] → sessions_of tasks ≡ sessions → sessions_of news ≡ sessions ++ s ∷ []
+  seated tasks news n s sessions more is = ap sessions_of more ∙ (sessions_push tasks (Look n s) ∙ ap (λ l. l ++ s ∷ []) is)
+
+  pub seated_devices : (tasks news : List (Task Y Z R P X G)) (n : ℕ) (s : Sitting R P) (devices : List (DynBox X Global G)) → news ≡ tasks ++ Look n s ∷ [] → devices_of tasks ≡ devices → devices_of news ≡ devices
+  seated_devices tasks news n s devices more is = ap devices_of more ∙ (devices_push tasks (Look n s) ∙ (append-nil (devices_of tasks) ∙ is))
+
+  -- what comes back of a task more
+  pub devices_more : (tasks : List (Task Y Z R P X G)) (task : Task Y Z R P X G) (job : Job X G) → task ≡ Work job → devices_of (tasks ++ task ∷ []) ≡ devices_of tasks ++ device_in job
+  devices_more tasks task job is = devices_push tasks task ∙ ap (λ l. devices_of tasks ++ l) (ap (λ (t : Task Y Z R P X G). devices_of (t ∷ [])) is ∙ append-nil (device_in job))
+
+  pub devices_same : (tasks : List (Task Y Z R P X G)) (task : Task Y Z R P X G) (n : ℕ) (s : Sitting R P) → task ≡ Look n s → devices_of (tasks ++ task ∷ []) ≡ devices_of tasks
+  devices_same tasks task n s is = devices_push tasks task ∙ (ap (λ l. devices_of tasks ++ l) (ap (λ (t : Task Y Z R P X G). devices_of (t ∷ [])) is) ∙ append-nil (devices_of tasks))
+
+  pub sessions_more : (tasks : List (Task Y Z R P X G)) (task : Task Y Z R P X G) (n : ℕ) (s : Sitting R P) → task ≡ Look n s → sessions_of (tasks ++ task ∷ []) ≡ sessions_of tasks ++ s ∷ []
+  sessions_more tasks task n s is = sessions_push tasks task ∙ ap (λ l. sessions_of tasks ++ l) (ap (λ (t : Task Y Z R P X G). sessions_of (t ∷ [])) is)
+
+  pub sessions_same : (tasks : List (Task Y Z R P X G)) (task : Task Y Z R P X G) (job : Job X G) → task ≡ Work job → sessions_of (tasks ++ task ∷ []) ≡ sessions_of tasks
+  sessions_same tasks task job is = sessions_push tasks task ∙ (ap (λ l. sessions_of tasks ++ l) (ap (λ (t : Task Y Z R P X G). sessions_of (t ∷ [])) is) ∙ append-nil (sessions_of tasks))
+
+  pub seated_can : (content : DynBox X Global G → Option Content) (block size : DynBox X Global G → ℕ) (list : ListName) (claims : Claiming) (workers : ℕ) (case : Option Content) (plan : Planned) (tasks news : List (Task Y Z R P X G)) (n : ℕ) (s : Sitting R P)
+      → news ≡ tasks ++ Look n s ∷ [] → (All (λ s. IsFresh plan claims list s) (sessions_of tasks) → All (CanRun list claims workers case plan content block size) tasks)
+      → All (λ s. IsFresh plan claims list s) (sessions_of news) → All (CanRun list claims workers case plan content block size) news
+  seated_can content block size list claims workers case plan tasks news n s more before fresh =
+      let both = All-pop (λ (s : Sitting R P). IsFresh plan claims list s) (sessions_of news) (sessions_of tasks) (Some s) (seated tasks news n s (sessions_of tasks) more refl) fresh in
+      subst (All (CanRun list claims workers case plan content block size)) (sym more) (All-push (CanRun list claims workers case plan content block size) tasks (Look n s) (before both.0) both.1)
 
 -- a kit more, with the next number
 pub kits_push : {K : Type 0} (claims_of : K → Claiming) (number_of : K → ℕ) (claims : Claiming) (n : ℕ) (kits : List K) (kit : K) → All (λ k. (claims_of k ≡ claims) × (number_of k < n)) kits

@@ -1,6 +1,7 @@
 -- What a run leaves: of the book rule and of what finishing says, for any number of workers.
 use Rattle.std.proofs.Common.{◌≡◌, ℕ, ◌≤◌, ◌<◌, true, false, List, [], ◌∷◌, ◌++◌, length, map, refl, sym, ap, subst, ◌∙◌, arith}
-use Rattle.std.specs.Prelude.{Bool, None, Option, Some, All, Contains, IsTrue, MatchOption}
+use Rattle.std.specs.Prelude.{Bool, None, Option, Some, All, Contains, IsTrue, MatchOption, slice_get}
+use Rattle.std.proofs.lemmas.List.Elements.{All-cons, All-head, All-nil, All-tail}
 use Rattle.std.specs.Arc.{arc_value}
 use Rattle.std.specs.FinMap.{empty}
 use Rattle.std.specs.declared.sync.Arc.{Arc}
@@ -13,19 +14,22 @@ use Rattle.aff_model.specs.Held.{Held}
 use Rattle.aff_model.specs.History.{Part, Published, publication_of}
 use Rattle.aff_model.specs.Legal.{IsComplete}
 use Rattle.aff_model.specs.Pieces.{published}
-use Rattle.aff_model.specs.Plan.{IsPlan}
+use Rattle.aff_model.specs.Plan.{IsPlan, Planned}
 use Rattle.aff_model.proofs.Once.{extents_of}
 use Rattle.aff_fields.specs.declared.entry.Entry.{Entry}
 use Rattle.aff_fields.specs.Entry.{FitsEntry}
 use Rattle.aff_map.specs.Mappable.{AreMappable, IsMappable, IsNumbered}
 use Rattle.aff_spec.specs.Appends.{applied, Reaches}
 use Rattle.aff_spec.specs.Bevvies.{written}
+use Rattle.aff_spec.specs.Chunks.{stored_chunks}
+use Rattle.sha2.specs.Sha256.{sha256}
 use Rattle.aff_spec.specs.Names.{stream_urn}
 use Rattle.aff_spec.specs.Runs.{AreGreatestRuns, history_spot}
 use Rattle.aff_spec.specs.Walks.{IsWalkable}
 use Rattle.aff_spec.specs.Words.{is_uuid}
 use Rattle.aff_image.specs.Asked.{Asked}
-use Rattle.aff_image.specs.Witnesses.{Witnessed, AreWitnessed, history_of, kept_chunks}
+use Rattle.aff_image.specs.Sound.{AreSound, IsReading, IsSound}
+use Rattle.aff_image.specs.Witnesses.{Witnessed, AreWitnessed, IsWitnessed, history_of, kept_chunks}
 use Rattle.aff_image.proofs.Counts.{few_kept}
 use Rattle.aff_image.proofs.Growth.{none_witnessed, reached-still, stored-none}
 use Rattle.aff_image.proofs.Orders.{complete-from_contains}
@@ -35,9 +39,9 @@ use Rattle.aff_finish.specs.Finishing.{AreHashesOf, HasEnded, ended, finish_appe
 use Rattle.aff_finish.specs.declared.hashes.Hashes.{Hashes}
 use Rattle.aff_finish.proofs.Endings.{finished, has_ended, stopped, stopped_behind, walkable}
 use Rattle.aff_book.specs.Pages.{Pages, Run}
-use Rattle.aff_book.specs.Rule.{BookRule, HasReached, IsGoing}
+use Rattle.aff_book.specs.Rule.{AreMadeOf, BookRule, HasReached, IsGoing, IsMadeOf}
 use Rattle.aff_book.proofs.Making.{made_extents, made_history}
-use Rattle.aff_run.specs.Ends.{AreStored, IsAcquired, IsCutOff, asked}
+use Rattle.aff_run.specs.Ends.{AreStored, IsCutOff, IsWhole, asked}
 
 -- a chunk with a low number leaves room in the stream
 numbered : (p : Place) → IsBelow MAX_CHUNKS p → IsNumbered p
@@ -113,9 +117,9 @@ module _ (case : Option Content) (tells : Bool) (ask : Asked) (is_plan : IsPlan 
           record { image = m.0; stopped = m.2 }
 
       -- the run came to its end
-      pub is_acquired : (new : Held) (h : Hashes) → (IsTrue tells → new ≡ applied mid (finish_appends ask.uuid ask.plan.size w.chunks entries mid))
-          → AreHashesOf tells (ended ask.uuid w.chunks entries mid) ask.uuid ask.plan.size (length w.chunks) h → IsAcquired case tells ask new history h
-      is_acquired new h made of =
+      pub is_whole : (new : Held) (h : Hashes) → (IsTrue tells → new ≡ applied mid (finish_appends ask.uuid ask.plan.size w.chunks entries mid))
+          → AreHashesOf tells (ended ask.uuid w.chunks entries mid) ask.uuid ask.plan.size (length w.chunks) h → IsWhole case tells ask new history h
+      is_whole new h made of =
           let m = finished case tells ask s.readings is_plan s.are ok small complete entries mid runs_here fit s.appended new h
           (λ t. made t ∙ ap (λ c. applied mid (finish_appends ask.uuid ask.plan.size c entries mid)) chunks_are)
           (subst (λ c. AreHashesOf tells (ended ask.uuid c entries mid) ask.uuid ask.plan.size (length c) h) chunks_are of) in
@@ -148,3 +152,33 @@ module _ (run : Run) (tells : Bool) {R : Type 0} (told : R → List ℕ) (b : Pa
   complete_book whole =
       subst (IsComplete run.plan.extents) (made_history tells told rule.readings b.pieces rule.made)
       (complete-from_contains run.plan.extents (history_of rule.readings) (λ k below. subst (λ l. Contains l k) (sym (made_extents tells told rule.readings b.pieces rule.made)) (whole k below)))
+
+-- a piece that was made of a reading is sound
+sound_one : (case : Option Content) (plan : Planned) (tells : Bool) {R : Type 0} (told : R → List ℕ) (o : Option Extent) (r : Witnessed) (p : Part R) → IsMadeOf tells told r p
+    → MatchOption o ⊥ (λ e. IsReading case plan.block e r.bytes r.published.bad r.published.places) → MatchOption o ⊥ (λ e. IsSound case plan.block e tells told p)
+sound_one case plan tells told None r p made is = absurd is
+sound_one case plan tells told (Some e) r p made is =
+    let bad : p.bad ≡ r.published.bad = ap (λ (q : Published). q.bad) made.is in
+    let places : p.places ≡ r.published.places = ap (λ (q : Published). q.places) made.is in
+    record {
+      bytes = r.bytes;
+      reading = subst (λ (l : List ℕ). IsReading case plan.block e r.bytes l p.places) (sym bad) (subst (λ (l : List Place). IsReading case plan.block e r.bytes r.published.bad l) (sym places) is);
+      digests = made.digests ∙ ap (λ (l : List Place). map sha256 (stored_chunks r.bytes l)) (sym places);
+      receipts = made.receipts;
+      told_chunks = λ t. made.told_chunks t ∙ ap (stored_chunks r.bytes) (sym places);
+    }
+
+pub sound_made : (case : Option Content) (plan : Planned) (tells : Bool) {R : Type 0} (told : R → List ℕ) (readings : List Witnessed) (pieces : List (Part R)) → AreMadeOf tells told readings pieces → All (IsWitnessed case plan) readings → AreSound case plan tells told pieces
+sound_made case plan tells told [] [] made all = All-nil _
+sound_made case plan tells told [] (p ∷ pieces) made all = absurd made
+sound_made case plan tells told (r ∷ readings) [] made all = absurd made
+sound_made case plan tells {R} told (r ∷ readings) (p ∷ pieces) made all =
+    let extent : p.extent ≡ r.published.extent = ap (λ (q : Published). q.extent) made.0.is in
+    All-cons (λ (p : Part R). MatchOption (slice_get plan.extents p.extent) ⊥ (λ e. IsSound case plan.block e tells told p)) p pieces
+    (sound_one case plan tells told (slice_get plan.extents p.extent) r p made.0
+    (subst (λ n. MatchOption (slice_get plan.extents n) ⊥ (λ e. IsReading case plan.block e r.bytes r.published.bad r.published.places)) (sym extent) (All-head (IsWitnessed case plan) r readings all)))
+    (sound_made case plan tells told readings pieces made.1 (All-tail (IsWitnessed case plan) r readings all))
+
+-- the pieces of a book are sound
+pub sound_book : (run : Run) (tells : Bool) {R : Type 0} (told : R → List ℕ) (b : Pages R) → BookRule run tells told b → AreSound run.case run.plan tells told b.pieces
+sound_book run tells told b rule = sound_made run.case run.plan tells told rule.readings b.pieces rule.made rule.are.each

@@ -1,6 +1,9 @@
 //! What a run is made of, before anything is read.
-ghost use Rattle.std.specs.Prelude.{◌≡◌, ◌+◌, ◌-◌, ◌<◌, ◌≤◌, ◌^◌, [], IfOk, All, length, map, vec_capacity, vec_len};
+ghost use Rattle.std.specs.Prelude.{◌≡◌, ◌+◌, ◌-◌, ◌<◌, ◌≤◌, ◌^◌, [], IfOk, IfSome, All, length, map, vec_capacity, vec_len};
 ghost use Rattle.aff_claim.specs.Values.{Claiming};
+ghost use Rattle.aff_script.specs.Script.{IsScript, IsSession};
+ghost use Rattle.aff_snapshot.specs.Lists.{ListName};
+ghost use Rattle.aff_run.specs.Sessions.{IsFresh};
 
 use crate::crew::Kit;
 use crate::tasks::Task;
@@ -8,56 +11,82 @@ use aff_claim::{BookSeat, Claims};
 use aff_extent::ExtentReader;
 use aff_model::{Case, Memory, Plan};
 use aff_order::{Order, orders};
-use aff_outside::{Device, Telling};
+use aff_outside::{Device, Folder};
 use aff_plan::order;
-use aff_snapshot::{Publisher, open};
+use aff_script::{Answer, Script};
+use aff_session::Session;
+use aff_snapshot::{Publisher, Viewer, open};
 use std::alloc::Global;
 use std::sync::Wait;
 
 /// All that a run takes memory for before its book is opened: its claim table with the book's seat, its list, a kit for each
-/// worker, and room for the tasks and for the devices that come back.
+/// worker, the sessions, and room.
 #[derive(Drop)]
-pub(crate) struct Made<C: Case, R: Telling> {
+pub(crate) struct Made<C: Case, F: Folder> {
     pub alloc: Global,
     pub claims: Claims,
     pub seat: BookSeat,
-    pub publisher: Publisher<C, R>,
+    pub publisher: Publisher<C, F::Receipt>,
     pub kits: Vec<Kit>,
-    pub tasks: Vec<Task>,
-    pub devices: Vec<Box<dyn Device>>,
+    pub sessions: Vec<Session<C, F>>,
+    pub room: Room<C, F>,
 }
 
-/// Makes a run for so many workers. The list comes last, since one that is let go is leaked.
-pub(crate) fn make<C: Case, R: Telling, W: Wait>(
+/// Room for the tasks, for the devices and sessions that come back of them, and for what the sessions were answered.
+#[derive(Drop)]
+pub(crate) struct Room<C: Case, F: Folder> {
+    pub tasks: Vec<Task<C, F>>,
+    pub devices: Vec<Box<dyn Device>>,
+    pub sessions: Vec<Session<C, F>>,
+    pub answers: Vec<Vec<Answer>>,
+}
+
+/// Makes a run for so many workers, and takes a peek for each session of the script; where it is refused, they come back. Of what can
+/// be refused the list comes last but for the sessions, since one that is let go is leaked.
+pub(crate) fn make<C: Case, F: Folder, W: Wait>(
     rt: &W,
     alloc: Global,
     plan: &Plan,
+    script: &Script,
     workers: u32,
-) -> Result<Made<C, R>, Memory>
-    requires { workers < 2 ^ 32 - 1 }
+    peeks: &mut Vec<F::Peek>,
+) -> Result<Made<C, F>, Memory>
+    requires workers { workers ≤ 16 }
+    requires script { IsScript plan.now.size script.now }
+    requires peeks { vec_len peeks.old ≡ length script.now }
     ensures claims { IfOk result (λ m. (m.claims.table.extents ≡ length plan.now.extents) × (m.claims.table.workers ≡ workers)) }
     ensures ranking { IfOk result (λ m. m.claims.ranking.priorities ≡ map (λ e. e.priority) plan.now.extents) }
     ensures seat { IfOk result (λ m. (m.seat.table ≡ m.claims.table) × (m.seat.view.out ≡ [])) }
     ensures list { IfOk result (λ m. (m.publisher.list.plan ≡ plan.now) × (m.publisher.pieces ≡ [])) }
     ensures count { IfOk result (λ m. vec_len m.kits ≡ workers) }
     ensures kits { IfOk result (λ m. All (λ k. (k.pass.claims ≡ m.claims) × (k.pass.view.number < workers)) m.kits.items) }
-    ensures none { IfOk result (λ m. (m.tasks.items ≡ []) × (m.devices.items ≡ [])) }
-    ensures room { IfOk result (λ m. (workers ≤ vec_capacity m.tasks) × (workers ≤ vec_capacity m.devices)) }
+    ensures sessions { IfOk result (λ m. All (λ s. IsFresh plan.now m.claims m.publisher.list s) m.sessions.items) }
+    ensures script { IfOk result (λ m. map (λ s. s.requests) m.sessions.items ≡ script.now) }
+    ensures none { IfOk result (λ m. (m.room.tasks.items ≡ []) × (m.room.devices.items ≡ []) × (m.room.sessions.items ≡ []) × (m.room.answers.items ≡ [])) }
+    ensures room { IfOk result (λ m. (workers + length script.now ≤ vec_capacity m.room.tasks) × (workers + length script.now ≤ vec_capacity m.room.devices)
+        × (workers + length script.now ≤ vec_capacity m.room.sessions) × (length script.now ≤ vec_capacity m.room.answers)) }
+    ensures peeks { IfOk result (λ _. (peeks.new.items ≡ []) × (length script.now ≤ vec_capacity peeks.new)) }
 {
     let (claims, mut seat) = Claims::new(alloc, plan, workers)?;
     let orders = orders_of(alloc, plan, workers)?;
     let kits = kits_of(alloc, &claims, &mut seat, plan, orders)?;
-    let (tasks, devices) = room_for(alloc, workers)?;
-    let (publisher, _) = open(rt, alloc, plan, 0)?;
-    Ok(Made {
-        alloc,
-        claims,
-        seat,
-        publisher,
-        kits,
-        tasks,
-        devices,
-    })
+    let room = room_for(alloc, workers as usize, script.sessions.len())?;
+    let (publisher, viewers) = open(rt, alloc, plan, script.sessions.len() as u32)?;
+    match sessions_of(alloc, plan, script, &claims, &mut seat, viewers, peeks) {
+        Ok(sessions) => Ok(Made {
+            alloc,
+            claims,
+            seat,
+            publisher,
+            kits,
+            sessions,
+            room,
+        }),
+        Err(Memory) => {
+            publisher.end(rt);
+            Err(Memory)
+        }
+    }
 }
 
 // The suggestions for each of so many workers.
@@ -68,18 +97,30 @@ fn orders_of(alloc: Global, plan: &Plan, workers: u32) -> Result<Vec<Order>, Mem
     orders(alloc, &order, workers)
 }
 
-// Room for the tasks of so many workers, and for their devices.
-fn room_for(alloc: Global, workers: u32) -> Result<(Vec<Task>, Vec<Box<dyn Device>>), Memory>
-    ensures none { IfOk result (λ r. (r.0.items ≡ []) × (r.1.items ≡ [])) }
-    ensures room { IfOk result (λ r. (workers ≤ vec_capacity r.0) × (workers ≤ vec_capacity r.1)) }
+// Room for so many workers and sessions.
+fn room_for<C: Case, F: Folder>(
+    alloc: Global,
+    workers: usize,
+    sessions: usize,
+) -> Result<Room<C, F>, Memory>
+    requires few { (workers ≤ 16) × (sessions ≤ 16) }
+    ensures none { IfOk result (λ r. (r.tasks.items ≡ []) × (r.devices.items ≡ []) × (r.sessions.items ≡ []) × (r.answers.items ≡ [])) }
+    ensures room { IfOk result (λ r. (workers + sessions ≤ vec_capacity r.tasks) × (workers + sessions ≤ vec_capacity r.devices)
+        × (workers + sessions ≤ vec_capacity r.sessions) × (sessions ≤ vec_capacity r.answers)) }
 {
-    let Ok(tasks) = Vec::with_capacity(alloc, workers as usize) else {
-        return Err(Memory);
-    };
-    let Ok(devices) = Vec::with_capacity(alloc, workers as usize) else {
-        return Err(Memory);
-    };
-    Ok((tasks, devices))
+    Ok(Room {
+        tasks: vec_for(alloc, workers + sessions)?,
+        devices: vec_for(alloc, workers + sessions)?,
+        sessions: vec_for(alloc, workers + sessions)?,
+        answers: vec_for(alloc, sessions)?,
+    })
+}
+
+fn vec_for<T: Drop>(alloc: Global, count: usize) -> Result<Vec<T>, Memory>
+    ensures none { IfOk result (λ v. v.items ≡ []) }
+    ensures room { IfOk result (λ v. count ≤ vec_capacity v) }
+{
+    Vec::with_capacity(alloc, count).map_err(|_| Memory)
 }
 
 // A kit for each order, with the numbers from 0 on.
@@ -93,6 +134,7 @@ fn kits_of(
     requires seat { (seat.old.table ≡ claims.now.table) × (seat.old.view.made ≡ 0) }
     requires few { vec_len orders < 2 ^ 32 - 1 }
     ensures seat { (seat.new.table ≡ seat.old.table) × (seat.new.view.out ≡ seat.old.view.out) }
+    ensures made { IfOk result (λ _. seat.new.view.made ≡ vec_len orders) }
     ensures count { IfOk result (λ kits. vec_len kits ≡ vec_len orders) }
     ensures kits { IfOk result (λ kits. All (λ k. (k.pass.claims ≡ claims.now) × (k.pass.view.number < vec_len orders)) kits.items) }
 {
@@ -109,4 +151,77 @@ fn kits_of(
         });
     }
     Ok(kits)
+}
+
+// A session for each of the script, with the numbers behind those of the workers. Where there are fewer viewers, some have none.
+fn sessions_of<C: Case, F: Folder>(
+    alloc: Global,
+    plan: &Plan,
+    script: &Script,
+    claims: &Claims,
+    seat: &mut BookSeat,
+    viewers: Vec<Viewer<C, F::Receipt>>,
+    peeks: &mut Vec<F::Peek>,
+) -> Result<Vec<Session<C, F>>, Memory>
+    requires seat { (seat.old.table ≡ claims.now.table) × (seat.old.view.made ≤ 16) }
+    requires script { IsScript plan.now.size script.now }
+    requires viewers { All (λ v. v.list.plan ≡ plan.now) viewers.items }
+    requires peeks { vec_len peeks.old ≡ length script.now }
+    ensures seat { (seat.new.table ≡ seat.old.table) × (seat.new.view.out ≡ seat.old.view.out) }
+    ensures sessions { IfOk result (λ s. (list : ListName) → All (λ v. v.list ≡ list) viewers.items → All (λ x. IsFresh plan.now claims.now list x) s.items) }
+    ensures script { IfOk result (λ s. map (λ x. x.requests) s.items ≡ script.now) }
+    ensures peeks { IfOk result (λ _. (peeks.new.items ≡ []) × (length script.now ≤ vec_capacity peeks.new)) }
+{
+    let mut viewers = viewers;
+    let mut sessions = vec_for(alloc, script.sessions.len())?;
+    for wanted in &script.sessions {
+        let viewer = viewers.pop();
+        match session_of(alloc, plan, claims, seat, viewer, peeks, wanted) {
+            Ok(session) => sessions.push_reserved(session),
+            Err(Memory) => {
+                give_back(sessions, peeks);
+                return Err(Memory);
+            }
+        }
+    }
+    Ok(sessions)
+}
+
+// A session with a pass of its own and one of the peeks.
+fn session_of<C: Case, F: Folder>(
+    alloc: Global,
+    plan: &Plan,
+    claims: &Claims,
+    seat: &mut BookSeat,
+    viewer: Option<Viewer<C, F::Receipt>>,
+    peeks: &mut Vec<F::Peek>,
+    wanted: &aff_script::Session,
+) -> Result<Session<C, F>, Memory>
+    requires table { seat.old.table ≡ claims.now.table }
+    requires room { seat.old.view.made < 2 ^ 32 - 1 }
+    requires viewer { IfSome viewer (λ v. v.list.plan ≡ plan.now) }
+    requires wanted { IsSession plan.now.size wanted.now }
+    requires peek { 0 < vec_len peeks.old }
+    ensures seat { (seat.new.table ≡ seat.old.table) × (seat.new.view.out ≡ seat.old.view.out) }
+    ensures made { seat.new.view.made ≤ seat.old.view.made + 1 }
+    ensures session { IfOk result (λ s. (list : ListName) → IfSome viewer (λ v. v.list ≡ list) → IsFresh plan.now claims.now list s) }
+    ensures wanted { IfOk result (λ s. s.requests ≡ wanted.now) }
+    ensures peeks { IfOk result (λ _. vec_len peeks.new + 1 ≡ vec_len peeks.old) }
+    ensures room { (vec_len peeks.new ≤ vec_len peeks.old) × (vec_capacity peeks.new ≡ vec_capacity peeks.old) }
+{
+    let pass = claims.register(seat)?;
+    let Some(peek) = peeks.pop() else {
+        unreachable!();
+    };
+    let requests = wanted.requests.as_slice();
+    Session::new(alloc, viewer, peek, plan, pass, requests)
+}
+
+/// Puts the peeks of sessions back where they were taken.
+pub(crate) fn give_back<C: Case, F: Folder>(sessions: Vec<Session<C, F>>, peeks: &mut Vec<F::Peek>)
+    requires room { vec_len peeks.old + vec_len sessions ≤ vec_capacity peeks.old }
+{
+    for session in sessions {
+        peeks.push_reserved(session.into_parts().peek);
+    }
 }

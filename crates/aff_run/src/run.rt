@@ -1,36 +1,41 @@
 //! The run.
-ghost use Rattle.std.specs.Prelude.{◌≡◌, ◌<◌, ◌≤◌, [], All, IsTrue, map, vec_capacity, vec_len};
+ghost use Rattle.std.specs.Prelude.{◌≡◌, ◌+◌, ◌<◌, ◌≤◌, [], All, IsTrue, length, map, vec_capacity, vec_len};
 ghost use Rattle.std.specs.FinMap.{empty};
-ghost use Rattle.aff_model.specs.Causes.{HasCause};
+ghost use Rattle.aff_model.specs.Causes.{Rose};
 ghost use Rattle.aff_model.specs.Plan.{IsPlan};
 ghost use Rattle.aff_book.specs.Pages.{list_of, run_of, table_of};
+ghost use Rattle.aff_script.specs.Script.{IsScript};
 ghost use Rattle.aff_run.specs.Devices.{AreKept, Fits};
-ghost use Rattle.aff_run.specs.Ends.{Leaves, asked};
+ghost use Rattle.aff_run.specs.Ends.{HasFailed, Leaves, asked};
+ghost use Rattle.aff_run.specs.Sessions.{IsFresh};
 
 use crate::closing::close;
-use crate::crew::{disband, staff};
-use crate::making::{Made, make};
+use crate::crew::{disband, seat, staff};
+use crate::making::{Made, Room, give_back, make};
 use crate::sweep::sweep_by_first;
 use crate::tasks::run_tasks;
 use crate::{Run, RunEnd};
 use aff_book::Book;
 use aff_model::{Case, MAX_SIZE, Memory, Named, Plan};
 use aff_names::Uuid;
-use aff_outside::{Device, Folder, Gate};
+use aff_outside::{Device, Folder, FolderError, Gate};
+use aff_script::Script;
 use aff_snapshot::Running;
 use std::alloc::Global;
 use std::marker::Brand;
 use std::sync::Wait;
 use std::thread::Threads;
 
-/// Acquires a plan into a folder in which nothing stands, by as many workers as there are devices, and finishes the volume with
-/// this UUID. What workers leave unpublished is read from the first device. Where memory for the making is refused, no task
-/// starts. Device failures never end a run.
+/// Acquires a plan into a folder in which nothing stands, by as many workers as there are devices, beside which the sessions of
+/// the script are answered, and finishes the volume with this UUID. What workers leave unpublished is read from the first device.
+/// Where memory for the making is refused, or peeks, no task starts. Device failures never end a run, and a session's fault leaves
+/// a finished volume.
 pub fn acquire<C: Case + Send + Sync, F: Folder, G: Gate, W: Threads + Wait + Sync>(
     rt: &W,
     alloc: Global,
     volume: &Uuid,
     plan: &Plan,
+    script: &Script,
     devices: Vec<Box<dyn Device>>,
     folder: F,
     gate: &G,
@@ -39,19 +44,42 @@ pub fn acquire<C: Case + Send + Sync, F: Folder, G: Gate, W: Threads + Wait + Sy
     requires devices { All (λ d. Fits C.content plan.now (λ d. device_content d) (λ d. device_block d) (λ d. device_size d) d) devices.items }
     requires plan { IsPlan plan.now.size plan.now.block plan.now.extents }
     requires small { plan.now.size ≤ MAX_SIZE }
+    requires script { IsScript plan.now.size script.now }
     requires empty { IsTrue F.tells → F.held folder ≡ empty }
-    ensures leaves { Leaves C.content F.tells (asked volume.now plan.now (vec_len devices)) (F.held result.folder) result.end }
-    ensures cause { HasCause (F.folder_faults folder) (F.folder_faults result.folder) (result.end ≡ RunEnd.Failed) }
+    ensures leaves { Leaves C.content F.tells F.Receipt.told (asked volume.now plan.now (vec_len devices)) script.now (F.held result.folder)
+        (Rose (F.folder_faults folder) (F.folder_faults result.folder)) (HasFailed F.Peek.peek_faults result.peeks.items) result.end }
+    ensures later { F.folder_faults folder ≤ F.folder_faults result.folder }
     ensures kept { AreKept (λ d. device_content d) (λ d. device_block d) (λ d. device_size d) (λ d. device_faults d) devices.items result.devices.items }
 {
-    match make(rt, alloc, plan, devices.len() as u32) {
-        Ok(made) => {
-            run_named::<C, Brand, F, G, W>(rt, volume, plan, made, devices, folder, gate)
+    let mut folder = folder;
+    let mut peeks = match folder.peeks(script.sessions.len()) {
+        Ok(peeks) => peeks,
+        Err(FolderError::Failed) => {
+            return Run {
+                end: RunEnd::Failed,
+                devices,
+                folder,
+                peeks: Vec::new(alloc),
+            };
         }
+        Err(FolderError::Memory) => {
+            return Run {
+                end: RunEnd::Memory,
+                devices,
+                folder,
+                peeks: Vec::new(alloc),
+            };
+        }
+    };
+    match make(rt, alloc, plan, script, devices.len() as u32, &mut peeks) {
+        Ok(made) => run_named::<C, Brand, F, G, W>(
+            rt, volume, plan, made, devices, folder, peeks, gate,
+        ),
         Err(Memory) => Run {
             end: RunEnd::Memory,
             devices,
             folder,
+            peeks,
         },
     }
 }
@@ -67,9 +95,10 @@ fn run_named<
     rt: &W,
     volume: &Uuid,
     plan: &Plan,
-    made: Made<C, F::Receipt>,
+    made: Made<C, F>,
     devices: Vec<Box<dyn Device>>,
     folder: F,
+    peeks: Vec<F::Peek>,
     gate: &G,
 ) -> Run<F>
     requires run { (volume.now ≡ N.run_volume) × (plan.now ≡ N.run_plan) × (F.folder_faults folder ≡ N.run_opened) }
@@ -79,44 +108,61 @@ fn run_named<
     requires list { made.publisher ≡ record { list = list_of (run_of C.Case N.Named); pieces = [] } }
     requires count { (0 < vec_len devices) × (vec_len devices ≡ N.run_workers) × (vec_len devices ≤ 16) }
     requires kits { (vec_len made.kits ≡ N.run_workers) × All (λ k. (k.pass.claims ≡ made.claims) × (k.pass.view.number < N.run_workers)) made.kits.items }
-    requires none { (made.tasks.items ≡ []) × (made.devices.items ≡ []) }
-    requires room { (N.run_workers ≤ vec_capacity made.tasks) × (N.run_workers ≤ vec_capacity made.devices) }
+    requires sessions { (vec_len made.sessions ≤ 16) × All (λ s. IsFresh plan.now made.claims (list_of (run_of C.Case N.Named)) s) made.sessions.items }
+    requires none { (made.room.tasks.items ≡ []) × (made.room.devices.items ≡ []) × (made.room.sessions.items ≡ []) × (made.room.answers.items ≡ []) × (peeks.items ≡ []) }
+    requires room { (N.run_workers + vec_len made.sessions ≤ vec_capacity made.room.tasks) × (N.run_workers + vec_len made.sessions ≤ vec_capacity made.room.devices)
+        × (N.run_workers + vec_len made.sessions ≤ vec_capacity made.room.sessions) × (vec_len made.sessions ≤ vec_capacity made.room.answers) × (vec_len made.sessions ≤ vec_capacity peeks) }
     requires devices { All (λ d. Fits C.content plan.now (λ d. device_content d) (λ d. device_block d) (λ d. device_size d) d) devices.items }
     requires plan { IsPlan plan.now.size plan.now.block plan.now.extents }
     requires small { plan.now.size ≤ MAX_SIZE }
     requires empty { IsTrue F.tells → F.held folder ≡ empty }
-    ensures leaves { Leaves C.content F.tells (asked volume.now plan.now N.run_workers) (F.held result.folder) result.end }
-    ensures cause { HasCause N.run_opened (F.folder_faults result.folder) (result.end ≡ RunEnd.Failed) }
+    ensures leaves { Leaves C.content F.tells F.Receipt.told (asked volume.now plan.now N.run_workers) (map (λ s. s.requests) made.sessions.items) (F.held result.folder)
+        (Rose N.run_opened (F.folder_faults result.folder)) (HasFailed F.Peek.peek_faults result.peeks.items) result.end }
+    ensures later { N.run_opened ≤ F.folder_faults result.folder }
     ensures kept { AreKept (λ d. device_content d) (λ d. device_block d) (λ d. device_size d) (λ d. device_faults d) devices.items result.devices.items }
 {
     let Made {
         alloc,
         claims,
-        seat,
+        seat: book_seat,
         publisher,
         kits,
-        tasks,
-        devices: room,
+        sessions,
+        room,
     } = made;
-    let book: Book<C, N, F> = match Book::open(rt, alloc, folder, plan, volume, seat, publisher) {
+    let mut peeks = peeks;
+    let book: Book<C, N, F> = match Book::open(
+        rt, alloc, folder, plan, volume, book_seat, publisher,
+    ) {
         Ok(book) => book,
         Err(refused) => {
+            give_back(sessions, &mut peeks);
             return Run {
                 end: RunEnd::Memory,
                 devices,
                 folder: refused.folder,
+                peeks,
             };
         }
     };
+    let Room {
+        tasks,
+        devices: no_devices,
+        sessions: no_sessions,
+        answers,
+    } = room;
     let running = Running::new(devices.len() as u32);
-    let mut tasks = staff::<C>(devices, kits, tasks);
+    let mut tasks = seat(staff::<C, F>(devices, kits, tasks), sessions);
     let mut book = run_tasks(rt, &claims, plan, book, &running, gate, &mut tasks);
-    let mut devices = disband(tasks, room);
+    let (mut devices, sessions) = disband(tasks, no_devices, no_sessions);
     let whole = sweep_by_first(rt, alloc, &claims, plan, &mut book, &mut devices);
-    let (end, folder) = close(rt, alloc, volume, plan, book, whole);
+    let (end, folder) = close(
+        rt, alloc, volume, plan, book, whole, sessions, answers, &mut peeks,
+    );
     Run {
         end,
         devices,
         folder,
+        peeks,
     }
 }

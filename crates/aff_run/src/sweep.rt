@@ -1,8 +1,8 @@
 //! The sweep: what no worker published is read and published by the run's own thread.
-ghost use Rattle.std.specs.Prelude.{◌≡◌, ◌<◌, ◌≤◌, ℕ, Some, true, All, Contains, IfSome, length, map, slice_index_or};
+ghost use Rattle.std.specs.Prelude.{◌≡◌, ◌<◌, ◌≤◌, ℕ, Some, true, All, Contains, IfSome, length, map};
 ghost use Rattle.aff_outside.specs.Kept.{IsSameDevice};
 ghost use Rattle.aff_book.specs.Pages.{run_of, table_of};
-ghost use Rattle.aff_run.specs.Devices.{Fits};
+ghost use Rattle.aff_run.specs.Devices.{AreKept, Fits};
 
 use aff_book::{Book, Put};
 use aff_claim::{Claims, Word};
@@ -28,11 +28,7 @@ pub(crate) fn sweep_by_first<C: Case, N: Named, F: Folder, W: Wait>(
     requires some { 0 < length devices.old.items }
     requires devices { All (λ d. Fits C.content plan.now (λ d. device_content d) (λ d. device_block d) (λ d. device_size d) d) devices.old.items }
     ensures whole { result ≡ true → (k : ℕ) → k < length plan.now.extents → Contains (map (λ p. p.extent) book.new.pieces) k }
-    ensures count { length devices.new.items ≡ length devices.old.items }
-    ensures contents { (k : ℕ) (d : _) → k < length devices.old.items → device_content (slice_index_or devices.new.items k d) ≡ device_content (slice_index_or devices.old.items k d) }
-    ensures blocks { (k : ℕ) (d : _) → k < length devices.old.items → device_block (slice_index_or devices.new.items k d) ≡ device_block (slice_index_or devices.old.items k d) }
-    ensures sizes { (k : ℕ) (d : _) → k < length devices.old.items → device_size (slice_index_or devices.new.items k d) ≡ device_size (slice_index_or devices.old.items k d) }
-    ensures rising { (k : ℕ) (d : _) → k < length devices.old.items → device_faults (slice_index_or devices.old.items k d) ≤ device_faults (slice_index_or devices.new.items k d) }
+    ensures kept { AreKept (λ d. device_content d) (λ d. device_block d) (λ d. device_size d) (λ d. device_faults d) devices.old.items devices.new.items }
 {
     sweep(rt, alloc, claims, plan, book, &mut *devices[0])
 }

@@ -1,12 +1,13 @@
 //! The tasks of a run, and how they run beside each other.
 ghost use Rattle.std.specs.Prelude.{◌≡◌, ◌<◌, ℕ, length, map, slice_index_or, All};
-ghost use Rattle.aff_book.specs.Pages.{run_of, table_of};
-ghost use Rattle.aff_run.specs.Tasks.{CanRun, HasRun};
+ghost use Rattle.aff_book.specs.Pages.{list_of, run_of, table_of};
+ghost use Rattle.aff_run.specs.Tasks.{CanRun, CanWork, HasRun, HasWorked};
 
 use aff_book::Book;
 use aff_claim::Claims;
 use aff_model::{Case, Named, Plan};
 use aff_outside::{Device, Folder, Gate};
+use aff_session::Session;
 use aff_snapshot::Running;
 use aff_worker::{WorkEnd, Worker, work};
 use std::mem::replace;
@@ -14,12 +15,43 @@ use std::sync::{Mutex, Wait};
 use std::thread;
 use std::thread::Threads;
 
-/// What runs in a thread of its own: a worker, before its work and behind it. While it works the place is taken.
+/// A worker, before its work and behind it. While it works the place is taken.
 #[derive(Drop)]
-pub(crate) enum Task {
+pub(crate) enum Job {
     Ready(Worker),
     Ended(WorkEnd),
     Taken,
+}
+
+/// What runs in a thread of its own: a worker, or a session with its number, which counts from 1.
+#[derive(Drop)]
+pub(crate) enum Task<C: Case, F: Folder> {
+    Work(Job),
+    Look(u32, Session<C, F>),
+}
+
+// Lets a worker work to its end.
+fn run_job<C: Case, N: Named, F: Folder, G: Gate, W: Wait>(
+    rt: &W,
+    claims: &Claims,
+    plan: &Plan,
+    book: &Mutex<Book<C, N, F>>,
+    running: &Running,
+    gate: &G,
+    job: &mut Job,
+)
+    requires claims { claims.now.table ≡ table_of (run_of C.Case N.Named) }
+    requires plan { plan.now ≡ N.run_plan }
+    requires ranking { claims.now.ranking.priorities ≡ map (λ e. e.priority) plan.now.extents }
+    requires job { CanWork claims.now N.run_workers C.content plan.now (λ d. (⟦<dyn Device as Device>⟧ d.vtable).device_content d.value) (λ d. (⟦<dyn Device as Device>⟧ d.vtable).device_block d.value) (λ d. (⟦<dyn Device as Device>⟧ d.vtable).device_size d.value) job.old }
+    ensures { HasWorked (λ d. (⟦<dyn Device as Device>⟧ d.vtable).device_content d.value) (λ d. (⟦<dyn Device as Device>⟧ d.vtable).device_block d.value) (λ d. (⟦<dyn Device as Device>⟧ d.vtable).device_size d.value) (λ d. (⟦<dyn Device as Device>⟧ d.vtable).device_faults d.value) job.old job.new }
+{
+    match replace(job, Job::Taken) {
+        Job::Ready(worker) => {
+            *job = Job::Ended(work(rt, claims, plan, book, running, gate, worker));
+        }
+        other => *job = other,
+    }
 }
 
 // Runs a task to its end.
@@ -30,19 +62,17 @@ fn run_task<C: Case, N: Named, F: Folder, G: Gate, W: Wait>(
     book: &Mutex<Book<C, N, F>>,
     running: &Running,
     gate: &G,
-    task: &mut Task,
+    task: &mut Task<C, F>,
 )
     requires claims { claims.now.table ≡ table_of (run_of C.Case N.Named) }
     requires plan { plan.now ≡ N.run_plan }
     requires ranking { claims.now.ranking.priorities ≡ map (λ e. e.priority) plan.now.extents }
-    requires task { CanRun claims.now N.run_workers C.content plan.now (λ d. (⟦<dyn Device as Device>⟧ d.vtable).device_content d.value) (λ d. (⟦<dyn Device as Device>⟧ d.vtable).device_block d.value) (λ d. (⟦<dyn Device as Device>⟧ d.vtable).device_size d.value) task.old }
-    ensures { HasRun (λ d. (⟦<dyn Device as Device>⟧ d.vtable).device_content d.value) (λ d. (⟦<dyn Device as Device>⟧ d.vtable).device_block d.value) (λ d. (⟦<dyn Device as Device>⟧ d.vtable).device_size d.value) (λ d. (⟦<dyn Device as Device>⟧ d.vtable).device_faults d.value) task.old task.new }
+    requires task { CanRun (list_of (run_of C.Case N.Named)) claims.now N.run_workers C.content plan.now (λ d. (⟦<dyn Device as Device>⟧ d.vtable).device_content d.value) (λ d. (⟦<dyn Device as Device>⟧ d.vtable).device_block d.value) (λ d. (⟦<dyn Device as Device>⟧ d.vtable).device_size d.value) task.old }
+    ensures { HasRun (list_of (run_of C.Case N.Named)) plan.now F.Receipt.receipt_tells F.Receipt.told F.Peek.peek_faults (λ d. (⟦<dyn Device as Device>⟧ d.vtable).device_content d.value) (λ d. (⟦<dyn Device as Device>⟧ d.vtable).device_block d.value) (λ d. (⟦<dyn Device as Device>⟧ d.vtable).device_size d.value) (λ d. (⟦<dyn Device as Device>⟧ d.vtable).device_faults d.value) task.old task.new }
 {
-    match replace(task, Task::Taken) {
-        Task::Ready(worker) => {
-            *task = Task::Ended(work(rt, claims, plan, book, running, gate, worker));
-        }
-        other => *task = other,
+    match task {
+        Task::Work(job) => run_job(rt, claims, plan, book, running, gate, job),
+        Task::Look(number, session) => session.live(claims, running, gate, *number),
     }
 }
 
@@ -60,15 +90,15 @@ pub(crate) fn run_tasks<
     book: Book<C, N, F>,
     running: &Running,
     gate: &G,
-    tasks: &mut [Task],
+    tasks: &mut [Task<C, F>],
 ) -> Book<C, N, F>
     requires claims { claims.now.table ≡ table_of (run_of C.Case N.Named) }
     requires plan { plan.now ≡ N.run_plan }
     requires ranking { claims.now.ranking.priorities ≡ map (λ e. e.priority) plan.now.extents }
     requires some { 0 < length tasks.old }
-    requires tasks { All (CanRun claims.now N.run_workers C.content plan.now (λ d. (⟦<dyn Device as Device>⟧ d.vtable).device_content d.value) (λ d. (⟦<dyn Device as Device>⟧ d.vtable).device_block d.value) (λ d. (⟦<dyn Device as Device>⟧ d.vtable).device_size d.value)) tasks.old }
+    requires tasks { All (CanRun (list_of (run_of C.Case N.Named)) claims.now N.run_workers C.content plan.now (λ d. (⟦<dyn Device as Device>⟧ d.vtable).device_content d.value) (λ d. (⟦<dyn Device as Device>⟧ d.vtable).device_block d.value) (λ d. (⟦<dyn Device as Device>⟧ d.vtable).device_size d.value)) tasks.old }
     ensures count { length tasks.new ≡ length tasks.old }
-    ensures each { (k : ℕ) (d : _) → k < length tasks.old → HasRun (λ d. (⟦<dyn Device as Device>⟧ d.vtable).device_content d.value) (λ d. (⟦<dyn Device as Device>⟧ d.vtable).device_block d.value) (λ d. (⟦<dyn Device as Device>⟧ d.vtable).device_size d.value) (λ d. (⟦<dyn Device as Device>⟧ d.vtable).device_faults d.value) (slice_index_or tasks.old k d) (slice_index_or tasks.new k d) }
+    ensures each { (k : ℕ) (d : _) → k < length tasks.old → HasRun (list_of (run_of C.Case N.Named)) plan.now F.Receipt.receipt_tells F.Receipt.told F.Peek.peek_faults (λ d. (⟦<dyn Device as Device>⟧ d.vtable).device_content d.value) (λ d. (⟦<dyn Device as Device>⟧ d.vtable).device_block d.value) (λ d. (⟦<dyn Device as Device>⟧ d.vtable).device_size d.value) (λ d. (⟦<dyn Device as Device>⟧ d.vtable).device_faults d.value) (slice_index_or tasks.old k d) (slice_index_or tasks.new k d) }
 {
     let shared = Mutex::new(book);
     let lock = &shared;
@@ -77,11 +107,11 @@ pub(crate) fn run_tasks<
         rt,
         tasks,
         threads,
-        &|_: usize, task: &mut Task|
+        &|_: usize, task: &mut Task<C, F>|
             requires { (claims.now.table ≡ table_of (run_of C.Case N.Named)) × (plan.now ≡ N.run_plan)
                 × (claims.now.ranking.priorities ≡ map (λ e. e.priority) plan.now.extents)
-                × CanRun claims.now N.run_workers C.content plan.now (λ d. device_content (d.vtable, d.value)) (λ d. device_block (d.vtable, d.value)) (λ d. device_size (d.vtable, d.value)) task.old }
-            ensures { HasRun (λ d. device_content (d.vtable, d.value)) (λ d. device_block (d.vtable, d.value)) (λ d. device_size (d.vtable, d.value)) (λ d. device_faults (d.vtable, d.value)) task.old task.new }
+                × CanRun (list_of (run_of C.Case N.Named)) claims.now N.run_workers C.content plan.now (λ d. device_content (d.vtable, d.value)) (λ d. device_block (d.vtable, d.value)) (λ d. device_size (d.vtable, d.value)) task.old }
+            ensures { HasRun (list_of (run_of C.Case N.Named)) plan.entry.now F.Receipt.receipt_tells F.Receipt.told F.Peek.peek_faults (λ d. device_content (d.vtable, d.value)) (λ d. device_block (d.vtable, d.value)) (λ d. device_size (d.vtable, d.value)) (λ d. device_faults (d.vtable, d.value)) task.old task.new }
         { run_task(rt, claims, plan, lock, running, gate, task) },
     );
     shared.into_inner()

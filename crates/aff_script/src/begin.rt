@@ -1,5 +1,5 @@
 //! Where a script begins.
-ghost use Rattle.std.specs.Prelude.{◌≤◌, length};
+ghost use Rattle.std.specs.Prelude.{◌+◌, ◌≤◌, length};
 ghost use Rattle.aff_script.specs.Split.{IsSplit};
 
 use aff_plan::cut_at;
@@ -11,6 +11,7 @@ use aff_plan::cut_at;
 pub fn split(text: &[u8]) -> (usize, u64)
     ensures split { IsSplit text.now result.0 result.1 }
     ensures inside { result.0 ≤ length text.now }
+    ensures numbered { result.1 ≤ result.0 + 1 }
 {
     let mut number = 1;
     let mut rest = text;

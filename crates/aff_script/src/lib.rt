@@ -5,6 +5,7 @@
 //! and comments, which begin with `#`, are skipped.
 #![tactic(auto)]
 
+mod answer;
 mod begin;
 mod cases;
 mod error;
@@ -13,6 +14,7 @@ mod read;
 mod rules;
 mod script;
 
+pub use answer::{Answer, RunLine};
 pub use begin::split;
 pub use cases::{lines_have_numbers, lines_say, sessions_say};
 pub use error::ScriptError;

@@ -6,7 +6,8 @@ use Rattle.aff_model.specs.Content.{Content}
 use Rattle.aff_model.specs.Plan.{Planned, IsPlan}
 use Rattle.aff_command.specs.Devices.{ShownDevice, AreAlike, IsFit}
 use Rattle.aff_run.specs.Devices.{Fits}
-use Rattle.aff_top.specs.Outcomes.{IsPlanned}
+use Rattle.aff_script.specs.Script.{IsScript}
+use Rattle.aff_top.specs.Outcomes.{IsPlanned, Script}
 use Rattle.aff_top.specs.Texts.{IsRunText}
 
 told_at : {D : Type 0} (case : Option Content) (content : D → Option Content) (xs : List D) → IfSome case (λ c. All (λ d. content d ≡ Some c) xs) → (k : ℕ) (d : D) → k < length xs
@@ -36,13 +37,14 @@ module _ {D : Type 0} (f : D → ShownDevice) where
       let like = subst (λ e. AreAlike e fit.device) (get_or-map f xs k d (f d) low) (fit.alike k (f d) there) in
       record { is_size = like.sizes ∙ sym size; is_block = like.blocks ∙ sym block; told = told_at case (λ d. (f d).content) xs told k d low }
 
--- a plan of a text for the devices
-pub planned_for : (devices : List ShownDevice) (fit : IsFit devices) (left : Option (List ℕ)) (plan : Planned) (size block : ℕ) → size ≡ fit.device.size → block ≡ fit.device.block
-    → plan.size ≡ size → plan.block ≡ block → IsPlan size block plan.extents → IfSome left (IsRunText size block plan.extents) → IsPlanned devices left plan
-planned_for devices fit left plan size block size_is block_is is_size is_block is_plan is_text = record {
+-- a plan and a script of a text for the devices
+pub planned_for : (devices : List ShownDevice) (fit : IsFit devices) (left : Option (List ℕ)) (plan : Planned) (script : Script) (size block : ℕ) → size ≡ fit.device.size → block ≡ fit.device.block
+    → plan.size ≡ size → plan.block ≡ block → IsPlan size block plan.extents → IsScript size script → IfSome left (IsRunText size block plan.extents script) → IsPlanned devices left plan script
+planned_for devices fit left plan script size block size_is block_is is_size is_block is_plan is_script is_text = record {
   fit = fit;
   size = is_size ∙ size_is;
   block = is_block ∙ block_is;
   is_plan = subst₂ (λ s b. IsPlan s b plan.extents) (sym is_size) (sym is_block) is_plan;
-  is_text = subst₂ (λ s b. IfSome left (IsRunText s b plan.extents)) (sym is_size) (sym is_block) is_text;
+  is_script = subst (λ s. IsScript s script) (sym is_size) is_script;
+  is_text = subst₂ (λ s b. IfSome left (IsRunText s b plan.extents script)) (sym is_size) (sym is_block) is_text;
 }

@@ -1,23 +1,24 @@
 -- How an answer and what is told of it are the outcome of a run.
-use Rattle.std.proofs.Common.{◌≡◌, ◌⊎◌, ◌≤◌, ℕ, List, [], ◌++◌, length, refl, inl, inr, sym, subst, ap, arith}
-use Rattle.std.specs.Prelude.{Bool, Option, Result, Ok, Err, String, IfOk, IfErr, IsErrOf}
+use Rattle.std.proofs.Common.{◌≡◌, ◌⊎◌, ◌≤◌, ℕ, List, [], ◌++◌, length, map, refl, inl, inr, sym, subst, ap, ◌∙◌, arith}
+use Rattle.std.specs.Prelude.{Bool, Contains, Option, Result, Ok, Err, String}
+use Rattle.std.proofs.lemmas.List.{get_or-map, length-map}
 use Rattle.std.specs.String.{string_bytes}
 use Rattle.std.specs.Io.KnownBytes.{Appends, IsAtEnd}
 use Rattle.aff_model.specs.Causes.{Rose}
 use Rattle.aff_model.specs.Content.{Content}
 use Rattle.aff_model.specs.Held.{Held}
-use Rattle.aff_model.specs.History.{Published}
+use Rattle.aff_model.specs.Pieces.{published}
 use Rattle.aff_model.specs.Plan.{Planned}
-use Rattle.aff_spec.specs.Report.{report_text}
 use Rattle.aff_image.specs.Asked.{Asked}
-use Rattle.aff_finish.specs.HashLines.{hash_lines}
-use Rattle.aff_finish.specs.declared.hashes.Hashes.{Hashes}
 use Rattle.aff_command.specs.CommandLine.{uuid_of}
-use Rattle.aff_run.specs.Ends.{IsAcquired, IsCutOff, asked}
-use Rattle.aff_top.specs.Outcomes.{Request, Facts, Output, Leaves, memory, Writes, IsBegun, IsWrittenInPart, IsResult, HaveNotFallen, IsOccupied, IsPartlyDone, IsAccepted, IsTold, IsOutcome, IsUntouched, IsFaultOf, IsReady, IsDone, IsRun, Says, status_at, code_of, line_of}
+use Rattle.aff_run.specs.declared.ending.RunEnd.{RunEnd}
+use Rattle.aff_run.specs.declared.ending.RunEnd.TheVariants as run
+use Rattle.aff_run.specs.Ends.{HasFailed, IsCutOff, IsLeftWhole, asked}
+use Rattle.aff_run.specs.Ends.{Leaves as Left}
+use Rattle.aff_top.specs.Outcomes.{Request, Facts, Output, Leaves, memory, Writes, IsBegun, IsWrittenInPart, IsResult, HaveNotFallen, IsOccupied, IsPartlyDone, IsAccepted, IsTold, IsOutcome, IsUntouched, IsFaultOf, IsReady, IsDone, IsRun, IsToldAs, IsUnanswered, Says, Script, status_at, code_of, line_of}
 use Rattle.aff_top.specs.Texts.{IsRefusedFrom}
 use Rattle.aff_top.specs.declared.fault.Fault.{Fault}
-use Rattle.aff_top.specs.declared.fault.Fault.TheVariants.{Usage, Devices, Occupied, Source, Text, Folder, Memory}
+use Rattle.aff_top.specs.declared.fault.Fault.TheVariants.{Usage, Devices, Occupied, Source, Text, Folder, Damaged, Memory}
 
 -- whatever the fault, memory may be refused when its line is to be written
 or_memory : {F S D : Type 0} (fault : Fault) (ask : Request) (old new : Facts F S D) (line : List ℕ) → Leaves (status_at (code_of fault)) ask old new line → Leaves memory ask old new []
@@ -26,7 +27,11 @@ or_memory (Devices refusal) ask old new line left = inl (λ t. ap (λ v. v.held)
 or_memory Occupied ask old new line left = inl left.2.held
 or_memory Source ask old new line left = inl left.2.held
 or_memory (Text fault) ask old new line left = inl left.2.held
-or_memory Folder ask old new line left = elim left.2 [ inl still ↦ inl still.0.held | inr part ↦ inr (inl part.1) ]
+or_memory Folder ask old new line left = elim left.1 [
+  | inl failed ↦ elim failed.1 [ inl still ↦ inl still.0.held | inr part ↦ inr (inl part.1) ]
+  | inr peek ↦ inr (inr (inl peek.2))
+]
+or_memory (Damaged chunk recorded found) ask old new line left = inr (inr (inl left.1))
 or_memory Memory ask old new line left = left
 
 writes_line : (fault : Fault) (old new : Output) (t : List ℕ) → Appends old.written new.written t ⊎ IsWrittenInPart old new t → Writes (status_at (code_of fault)) old new t
@@ -37,13 +42,14 @@ writes_line Source old new t told = told
 writes_line (Text fault) old new t told = told
 writes_line Occupied old new t told = told
 writes_line Folder old new t told = told
+writes_line (Damaged chunk recorded found) old new t told = told
 
 pub outcome_of : {A F S D : Type 0} (r : Result (String A) Fault) (ask : Request) (old new : Facts F S D) (before after : Output) (status : ℕ)
     → IsResult ask old new r → IsTold r before after status → IsOutcome ask old new before after status
 outcome_of (Ok report) ask old new before after status answer told = elim told [
   | inl h ↦ subst (IsOutcome ask old new before after) (sym h.0) (record { report = string_bytes report; leaves = answer.0; writes = h.1; later = answer.1 })
   | inr (inl h) ↦ subst (IsOutcome ask old new before after) (sym h.0) (record { report = string_bytes report; leaves = answer.0; writes = h.1; later = answer.1 })
-  | inr (inr h) ↦ subst (IsOutcome ask old new before after) (sym h.0) (record { report = []; leaves = inr (inr (string_bytes report, answer.0.1)); writes = inr (inr h.1); later = answer.1 })
+  | inr (inr h) ↦ subst (IsOutcome ask old new before after) (sym h.0) (record { report = []; leaves = inr (inr (inr (string_bytes report, answer.0.1))); writes = inr (inr h.1); later = answer.1 })
 ]
 outcome_of (Err fault) ask old new before after status answer told = elim told [
   | inl h ↦ subst (IsOutcome ask old new before after) (sym h.0) (record {
@@ -65,7 +71,7 @@ pub folder_refused : {F S D : Type 0} (ask : Request) (old new : Facts F S D) (f
     → IsFaultOf fault ask old new
 folder_refused ask old new fault taken still source later rose occupied which = elim which [
   | inl is ↦ subst (λ f. IsFaultOf f ask old new) (sym is) ((taken, occupied is, still, source), refl, later)
-  | inr (inl is) ↦ subst (λ f. IsFaultOf f ask old new) (sym is) ((taken, rose is, inl (still, source)), refl, later)
+  | inr (inl is) ↦ subst (λ f. IsFaultOf f ask old new) (sym is) ((taken, inl (rose is, inl (still, source))), refl, later)
   | inr (inr is) ↦ subst (λ f. IsFaultOf f ask old new) (sym is) (inl still.held, refl, later)
 ]
 
@@ -81,40 +87,72 @@ plan_refused ask old new fault begun still later rose which = elim which [
       ((begun, record { fit = begun.taken.devices; fault = refused.why; says = refl; text = refused.refused }, still), refl, later)
 ]
 
--- what is said of a run that is done
-pub says_done : {A : Type 0} (case : Option Content) (tells : Bool) (ask : Asked) (held : Held) (history : List Published) (hashes : Hashes) → IsAcquired case tells ask held history hashes
-    → (r : Result (String A) Fault) → IfOk r (λ text. string_bytes text ≡ report_text ask.uuid ask.plan.size (length ask.plan.extents) history ++ hash_lines hashes) → IfErr r (λ e. e ≡ Memory)
-    → Says case tells ask held r
-says_done case tells ask held history hashes done (Ok text) is none = record { history = history; hashes = hashes; acquired = done; is_report = is }
-says_done {A} case tells ask held history hashes done (Err e) is none =
-    subst (λ f. Says {A = A} case tells ask held (Err f)) (sym none) (inr (_, record { history = history; hashes = hashes; acquired = done; is_report = refl }))
+-- what is said of a run, by what it left and how that is told
+pub says_of : {A R : Type 0} (case : Option Content) (tells : Bool) (told : R → List ℕ) (ask : Asked) (script : Script) (held : Held) (folder peek : Type 0) (end : RunEnd R) (r : Result (String A) Fault)
+    → Left case tells told ask script held folder peek end → IsToldAs ask.uuid ask.plan end r → Says case tells ask script held folder peek r
+says_of case tells told ask script held folder peek (run.Done a) (Ok text) left is =
+    record { history = map published a.pieces.items; sessions = map (λ s. s.items) a.sessions.items; hashes = a.hashes; acquired = left.0; is_report = is }
+says_of {A} case tells told ask script held folder peek (run.Done a) (Err e) left is =
+    subst (λ f. Says {A = A} case tells ask script held folder peek (Err f)) (sym is)
+    (inr (inr (_, record { history = map published a.pieces.items; sessions = map (λ s. s.items) a.sessions.items; hashes = a.hashes; acquired = left.0; is_report = refl })))
+says_of case tells told ask script held folder peek run.Failed (Ok text) left is = absurd is
+says_of {A} case tells told ask script held folder peek run.Failed (Err e) left is = subst (λ f. Says {A = A} case tells ask script held folder peek (Err f)) (sym is) left
+says_of case tells told ask script held folder peek (run.Damaged chunk recorded found) (Ok text) left is = absurd is
+says_of {A} case tells told ask script held folder peek (run.Damaged chunk recorded found) (Err e) left is = subst (λ f. Says {A = A} case tells ask script held folder peek (Err f)) (sym is) left
+says_of case tells told ask script held folder peek run.Memory (Ok text) left is = absurd is
+says_of {A} case tells told ask script held folder peek run.Memory (Err e) left is =
+    subst (λ f. Says {A = A} case tells ask script held folder peek (Err f)) (sym is) (elim left [ inl cut ↦ inl cut | inr whole ↦ inr (inl whole) ])
+
+contains_map : {X Y : Type 0} (f : X → Y) (xs : List X) (x : X) → Contains xs x → Contains (map f xs) (f x)
+contains_map f xs x there = (there.0, omega (arith, there.1, length-map xs f), get_or-map f xs there.0 x (f x) there.1 ∙ ap f there.2)
+
+-- a peek that failed, by the counts
+pub counted : {P : Type 0} (faults : P → ℕ) (peeks : List P) → HasFailed faults peeks → HasFailed (λ (count : ℕ). count) (map (λ p. faults p) peeks)
+counted faults peeks failed = record { peek = faults failed.peek; there = contains_map (λ p. faults p) peeks failed.peek failed.there; failed = failed.failed }
 
 -- the answer of a run that could begin
-module _ {F S D : Type 0} (ask : Request) (old mid new : Facts F S D) (uuid : List ℕ) (plan : Planned) (workers : ℕ) (ready : IsReady ask old mid uuid plan) (count : workers ≡ length old.devices)
-    (left : new.left ≡ mid.left) (source : mid.source_faults ≤ new.source_faults) (folder : mid.folder_faults ≤ new.folder_faults) where
+module _ {F S D P : Type 0} (ask : Request) (old mid new : Facts F S D) (uuid : List ℕ) (plan : Planned) (script : Script) (workers : ℕ) (ready : IsReady ask old mid uuid plan script) (count : workers ≡ length old.devices)
+    (left : new.left ≡ mid.left) (source : mid.source_faults ≤ new.source_faults) (folder : mid.folder_faults ≤ new.folder_faults)
+    (faults : P → ℕ) (peeks : List P) (peeked : new.peeks ≡ map (λ p. faults p) peeks) where
   later : HaveNotFallen old new
   later = record { folder = omega (arith, ready.later.folder, folder); source = omega (arith, ready.later.source, source) }
 
   same : asked uuid plan workers ≡ asked (uuid_of ask.words) plan (length old.devices)
   same = λ i. asked (ready.named i) plan (count i)
 
-  done : (report : List ℕ) → IsRun ask.case ask.tells (asked uuid plan workers) new.held report → IsDone ask old new report
+  done : (report : List ℕ) → IsRun ask.case ask.tells (asked uuid plan workers) script new.held report → IsDone ask old new report
   done report run = record {
     plan = plan;
+    script = script;
     planned = ready.planned;
     whole = subst IsAtEnd (sym left) ready.whole;
-    run = subst (λ a. IsRun ask.case ask.tells a new.held report) same run;
+    run = subst (λ a. IsRun ask.case ask.tells a script new.held report) same run;
   }
 
   part : IsCutOff ask.case ask.tells (asked uuid plan workers) new.held → IsPartlyDone ask old new
-  part cut = record { plan = plan; planned = ready.planned; cut_off = subst (λ a. IsCutOff ask.case ask.tells a new.held) same cut }
+  part cut = record { plan = plan; script = script; planned = ready.planned; cut_off = subst (λ a. IsCutOff ask.case ask.tells a new.held) same cut }
 
-  pub result_of : {A : Type 0} (r : Result (String A) Fault) → (IsErrOf r Folder → Rose mid.folder_faults new.folder_faults) → Says ask.case ask.tells (asked uuid plan workers) new.held r → IsResult ask old new r
-  result_of (Ok report) rose says = ((ready.begun, done (string_bytes report) says), later)
-  result_of (Err Folder) rose says = ((ready.begun.taken, rose_from _ _ _ ready.later.folder (rose refl), inr (ready.begun, part says)), refl, later)
-  result_of (Err Memory) rose says = (elim says [ inl cut ↦ inr (inl (part cut)) | inr whole ↦ inr (inr (whole.0, done whole.0 whole.1)) ], refl, later)
-  result_of (Err Usage) rose says = absurd says
-  result_of (Err (Devices why)) rose says = absurd says
-  result_of (Err Occupied) rose says = absurd says
-  result_of (Err Source) rose says = absurd says
-  result_of (Err (Text why)) rose says = absurd says
+  unanswered : IsLeftWhole ask.case ask.tells (asked uuid plan workers) new.held → IsUnanswered ask old new
+  unanswered whole = record { plan = plan; script = script; planned = ready.planned; left = subst (λ a. IsLeftWhole ask.case ask.tells a new.held) same whole }
+
+  pub result_of : {A : Type 0} (r : Result (String A) Fault) → Says ask.case ask.tells (asked uuid plan workers) script new.held (Rose mid.folder_faults new.folder_faults) (HasFailed faults peeks) r → IsResult ask old new r
+  result_of (Ok report) says = ((ready.begun, done (string_bytes report) says), later)
+  result_of (Err Folder) says = elim says [
+    | inl cut ↦ ((ready.begun.taken, inl (rose_from _ _ _ ready.later.folder cut.0, inr (ready.begun, part cut.1))), refl, later)
+    | inr whole ↦ ((ready.begun.taken, inr (ready.begun, subst (HasFailed (λ (count : ℕ). count)) (sym peeked) (counted faults peeks whole.0), unanswered whole.1)), refl, later)
+  ]
+  result_of (Err (Damaged chunk recorded found)) says =
+      ((ready.begun, unanswered says.1, record { chunk = chunk; recorded = recorded; found = found; damage = says.0; says = refl }), refl, later)
+  result_of (Err Memory) says = (
+    elim says [
+      | inl cut ↦ inr (inl (part cut))
+      | inr rest ↦ elim rest [ inl whole ↦ inr (inr (inl (unanswered whole))) | inr all ↦ inr (inr (inr (all.0, done all.0 all.1))) ]
+    ],
+    refl,
+    later,
+  )
+  result_of (Err Usage) says = absurd says
+  result_of (Err (Devices why)) says = absurd says
+  result_of (Err Occupied) says = absurd says
+  result_of (Err Source) says = absurd says
+  result_of (Err (Text why)) says = absurd says

@@ -1,5 +1,5 @@
 -- How a run may end.
-use Rattle.std.specs.Prelude.{String, ◌≡◌, ◌⊎◌, ◌≤◌, ℕ, Bool, List, [], ◌++◌, IsTrue, length, take, codes, Option, Result, Ok, Err, IfSome, if◌then◌else◌, ◌==◌}
+use Rattle.std.specs.Prelude.{String, ◌≡◌, ◌⊎◌, ◌≤◌, ℕ, Bool, List, [], ◌++◌, map, IsTrue, length, take, codes, Option, Result, Ok, Err, IfSome, if◌then◌else◌, ◌==◌}
 use Rattle.std.specs.String.{string_bytes}
 use Rattle.std.specs.FinMap.{empty}
 use Rattle.std.specs.Io.KnownBytes.{Appends, Keeps, IsAtEnd}
@@ -12,17 +12,25 @@ use Rattle.aff_outside.specs.declared.folder.Folder.{Ghosts as FolderGhosts}
 use Rattle.aff_outside.specs.declared.text.Source.{Ghosts as SourceGhosts}
 use Rattle.aff_outside.specs.declared.text.Sink.{Ghosts as SinkGhosts}
 use Rattle.aff_spec.specs.Report.{report_text}
+use Rattle.aff_report.specs.Damage.{damaged_line}
+use Rattle.aff_report.specs.Sessions.{session_lines}
+use Rattle.aff_script.specs.Answered.{Answered}
+use Rattle.aff_script.specs.declared.script.Request as scripts
+use Rattle.aff_script.specs.Script.{IsScript}
 use Rattle.aff_image.specs.Asked.{Asked}
 use Rattle.aff_finish.specs.HashLines.{hash_lines}
 use Rattle.aff_finish.specs.declared.hashes.Hashes.{Hashes}
-use Rattle.aff_run.specs.Ends.{IsAcquired, IsCutOff, asked}
+use Rattle.aff_model.specs.Pieces.{published}
+use Rattle.aff_run.specs.declared.ending.RunEnd.{RunEnd}
+use Rattle.aff_run.specs.declared.ending.RunEnd.TheVariants as run
+use Rattle.aff_run.specs.Ends.{HasFailed, IsAcquired, IsCutOff, IsDamage, IsLeftWhole, asked}
 use Rattle.aff_command.specs.CommandLine.{AreAcquire, uuid_of}
 use Rattle.aff_command.specs.Devices.{ShownDevice, IsFit}
 use Rattle.aff_command.specs.Refusals.{AreRefused, refusal_line}
 use Rattle.aff_command.specs.declared.devices.Refusal.{Refusal}
 use Rattle.aff_top.specs.Texts.{IsRunText, IsTextRefused, text_line}
 use Rattle.aff_top.specs.declared.fault.Fault.{Fault}
-use Rattle.aff_top.specs.declared.fault.Fault.TheVariants.{Usage, Devices, Occupied, Source, Text, Folder, Memory}
+use Rattle.aff_top.specs.declared.fault.Fault.TheVariants.{Usage, Devices, Occupied, Source, Text, Folder, Damaged, Memory}
 use Rattle.aff_top.specs.declared.fault.TextFault.{TextFault}
 
 -- what is asked: the words, with what is told of the device's content, and whether the folder tells what it holds
@@ -31,10 +39,15 @@ pub record Request : Type 0 where
   pub case : Option Content
   pub tells : Bool
 
+-- the sessions of a script, each by its requests
+abbrev pub Script : Type 0
+Script = List (List scripts.Request)
+
 abbrev pub request : List (List ℕ) → Option Content → Bool → Request
 request words case tells = record { words = words; case = case; tells = tells }
 
--- what a run is handed, and what it shows at one time: the devices as they show and as they are, the folder, the source
+-- what a run is handed, and what it shows at one time: the devices as they show and as they are, the folder, the source, and how
+-- often each peek that it made of the folder failed
 pub record Facts (F S D : Type 0) : Type 0 where
   pub devices : List ShownDevice
   pub handed : D
@@ -44,10 +57,20 @@ pub record Facts (F S D : Type 0) : Type 0 where
   pub folder_faults : ℕ
   pub left : Option (List ℕ)
   pub source_faults : ℕ
+  pub peeks : List ℕ
 
-abbrev pub facts : {F R P S D : Type 0} → FolderGhosts F R P → SourceGhosts S → List ShownDevice → D → F → S → Facts F S D
-facts f s devices handed folder source =
-    record { devices = devices; handed = handed; folder = folder; source = source; held = f.held folder; folder_faults = f.folder_faults folder; left = s.left source; source_faults = s.source_faults source }
+abbrev pub facts : {F R P S D : Type 0} → FolderGhosts F R P → SourceGhosts S → List ShownDevice → D → F → S → List ℕ → Facts F S D
+facts f s devices handed folder source peeks = record {
+  devices = devices;
+  handed = handed;
+  folder = folder;
+  source = source;
+  held = f.held folder;
+  folder_faults = f.folder_faults folder;
+  left = s.left source;
+  source_faults = s.source_faults source;
+  peeks = peeks;
+}
 
 -- an acquisition is asked, from devices that are fit
 pub record IsAccepted {F S D : Type 0} (ask : Request) (old : Facts F S D) : Type 0 where
@@ -69,34 +92,61 @@ pub record IsUntouched {F S D : Type 0} (ask : Request) (old new : Facts F S D) 
   pub handed : new.handed ≡ old.handed
   pub held : IsTrue ask.tells → new.held ≡ old.held
 
--- A plan was acquired by so many workers: the folder is the finished volume of an image of it, and the report is that of the
--- image's history, with the hashes that the volume states.
-pub record IsRun (case : Option Content) (tells : Bool) (ask : Asked) (held : Held) (report : List ℕ) : Type 0 where
+-- A plan was acquired by so many workers, and a script was answered: the folder is the finished volume of an image of the plan,
+-- and the report is that of the image's history, with what each session was answered and the hashes that the volume states.
+pub record IsRun (case : Option Content) (tells : Bool) (ask : Asked) (script : Script) (held : Held) (report : List ℕ) : Type 0 where
   pub history : List Published
+  pub sessions : List (List Answered)
   pub hashes : Hashes
-  pub acquired : IsAcquired case tells ask held history hashes
-  pub is_report : report ≡ report_text ask.uuid ask.plan.size (length ask.plan.extents) history ++ hash_lines hashes
+  pub acquired : IsAcquired case tells ask script held history sessions hashes
+  pub is_report : report ≡ report_text ask.uuid ask.plan.size (length ask.plan.extents) history ++ (session_lines 1 sessions ++ hash_lines hashes)
 
--- the text was that of a plan for the devices
-pub record IsPlanned (devices : List ShownDevice) (left : Option (List ℕ)) (plan : Planned) : Type 0 where
+-- the text was that of a plan and a script for the devices
+pub record IsPlanned (devices : List ShownDevice) (left : Option (List ℕ)) (plan : Planned) (script : Script) : Type 0 where
   pub fit : IsFit devices
   pub size : plan.size ≡ fit.device.size
   pub block : plan.block ≡ fit.device.block
   pub is_plan : IsPlan plan.size plan.block plan.extents
-  pub is_text : IfSome left (IsRunText plan.size plan.block plan.extents)
+  pub is_script : IsScript plan.size script
+  pub is_text : IfSome left (IsRunText plan.size plan.block plan.extents script)
 
--- the run's plan was acquired, with this report; the source was read to its end
+-- the run's plan was acquired and its script answered, with this report; the source was read to its end
 pub record IsDone {F S D : Type 0} (ask : Request) (old new : Facts F S D) (report : List ℕ) : Type 0 where
   pub plan : Planned
-  pub planned : IsPlanned old.devices old.left plan
+  pub script : Script
+  pub planned : IsPlanned old.devices old.left plan script
   pub whole : IsAtEnd new.left
-  pub run : IsRun ask.case ask.tells (asked (uuid_of ask.words) plan (length old.devices)) new.held report
+  pub run : IsRun ask.case ask.tells (asked (uuid_of ask.words) plan (length old.devices)) script new.held report
 
 -- the run's plan was not acquired whole
 pub record IsPartlyDone {F S D : Type 0} (ask : Request) (old new : Facts F S D) : Type 0 where
   pub plan : Planned
-  pub planned : IsPlanned old.devices old.left plan
+  pub script : Script
+  pub planned : IsPlanned old.devices old.left plan script
   pub cut_off : IsCutOff ask.case ask.tells (asked (uuid_of ask.words) plan (length old.devices)) new.held
+
+-- the run's plan was acquired, the folder is its finished volume, and a session was not answered
+pub record IsUnanswered {F S D : Type 0} (ask : Request) (old new : Facts F S D) : Type 0 where
+  pub plan : Planned
+  pub script : Script
+  pub planned : IsPlanned old.devices old.left plan script
+  pub left : IsLeftWhole ask.case ask.tells (asked (uuid_of ask.words) plan (length old.devices)) new.held
+
+-- the folder failed: before anything was made, or while the plan was acquired
+abbrev pub HasFolderFailed : {F S D : Type 0} → Request → Facts F S D → Facts F S D → Type 0
+HasFolderFailed ask old new = Rose old.folder_faults new.folder_faults × ((IsUntouched ask old new × (new.source ≡ old.source)) ⊎ (IsBegun ask old × IsPartlyDone ask old new))
+
+-- a peek of the folder failed, and with it a session
+abbrev pub HasPeekFailed : {F S D : Type 0} → Request → Facts F S D → Facts F S D → Type 0
+HasPeekFailed ask old new = IsBegun ask old × HasFailed (λ (count : ℕ). count) new.peeks × IsUnanswered ask old new
+
+-- a chunk was found damaged, of which this is the line
+pub record IsDamageLine (tells : Bool) (line : List ℕ) : Type 0 where
+  pub chunk : ℕ
+  pub recorded : List ℕ
+  pub found : List ℕ
+  pub damage : IsDamage tells recorded found
+  pub says : line ≡ damaged_line chunk recorded found
 
 -- the text is refused for the devices, by this line
 pub record IsRefusedBy {F S D : Type 0} (old : Facts F S D) (line : List ℕ) : Type 0 where
@@ -120,6 +170,7 @@ pub data Status : Type 0 where
   folder : Status
   memory : Status
   occupied : Status
+  damaged : Status
   devices : Status
   other : Status
 
@@ -133,19 +184,20 @@ status_at n =
     else (if n == 6 then folder
     else (if n == 7 then memory
     else (if n == 8 then occupied
-    else (if n == 10 then devices else other))))))))
+    else (if n == 9 then damaged
+    else (if n == 10 then devices else other)))))))))
 
--- why each status comes, and what it leaves; at `done` and `sink` with this report, at `text` and `devices` with this line
+-- why each status comes, and what it leaves; at `done` and `sink` with this report, at `text`, `damaged` and `devices` with this line
 abbrev pub Leaves : {F S D : Type 0} → Status → Request → Facts F S D → Facts F S D → List ℕ → Type 0
 Leaves done ask old new report = IsBegun ask old × IsDone ask old new report
 Leaves usage ask old new report = (¬ (AreAcquire ask.words)) × (new ≡ old)
 Leaves text ask old new line = IsBegun ask old × IsRefusedBy old line × IsUntouched ask old new
 Leaves source ask old new report = IsBegun ask old × Rose old.source_faults new.source_faults × IsUntouched ask old new
 Leaves sink ask old new report = IsBegun ask old × IsDone ask old new report
-Leaves folder ask old new report =
-    IsAccepted ask old × Rose old.folder_faults new.folder_faults × ((IsUntouched ask old new × (new.source ≡ old.source)) ⊎ (IsBegun ask old × IsPartlyDone ask old new))
-Leaves memory ask old new report = (IsTrue ask.tells → new.held ≡ old.held) ⊎ (IsPartlyDone ask old new ⊎ ((whole : List ℕ) × IsDone ask old new whole))
+Leaves folder ask old new report = IsAccepted ask old × (HasFolderFailed ask old new ⊎ HasPeekFailed ask old new)
+Leaves memory ask old new report = (IsTrue ask.tells → new.held ≡ old.held) ⊎ (IsPartlyDone ask old new ⊎ (IsUnanswered ask old new ⊎ ((whole : List ℕ) × IsDone ask old new whole)))
 Leaves occupied ask old new report = IsAccepted ask old × IsOccupied ask old × IsUntouched ask old new × (new.source ≡ old.source)
+Leaves damaged ask old new line = IsBegun ask old × IsUnanswered ask old new × IsDamageLine ask.tells line
 Leaves devices ask old new line = AreAcquire ask.words × ((why : Refusal) × AreRefused old.devices why × (line ≡ refusal_line why)) × (new ≡ old)
 Leaves other ask old new report = ⊥
 
@@ -159,6 +211,7 @@ text_of sink report = report
 text_of folder report = codes "error folder\n"
 text_of memory report = codes "error memory\n"
 text_of occupied report = codes "error occupied\n"
+text_of damaged line = line
 text_of devices line = line
 text_of other report = []
 
@@ -199,6 +252,7 @@ code_of Source = 4
 code_of Folder = 6
 code_of Memory = 7
 code_of Occupied = 8
+code_of (Damaged chunk recorded found) = 9
 code_of (Devices refusal) = 10
 
 abbrev pub line_of : Fault → List ℕ
@@ -208,6 +262,7 @@ line_of Source = codes "error source\n"
 line_of Folder = codes "error folder\n"
 line_of Memory = codes "error memory\n"
 line_of Occupied = codes "error occupied\n"
+line_of (Damaged chunk recorded found) = damaged_line chunk recorded found
 line_of (Devices refusal) = refusal_line refusal
 
 -- what a fault leaves, and its line
@@ -220,20 +275,33 @@ abbrev pub IsResult : {A F S D : Type 0} → Request → Facts F S D → Facts F
 IsResult ask old new (Ok report) = Leaves done ask old new (string_bytes report) × HaveNotFallen old new
 IsResult ask old new (Err fault) = IsFaultOf fault ask old new
 
--- What is said of an acquisition: its report; that the folder failed, or that there was no memory, where it was cut off; or that
--- there was no memory for the report of one that is done.
-abbrev pub Says : {A : Type 0} → Option Content → Bool → Asked → Held → Result (String A) Fault → Type 0
-Says case tells run held (Ok report) = IsRun case tells run held (string_bytes report)
-Says case tells run held (Err Folder) = IsCutOff case tells run held
-Says case tells run held (Err Memory) = IsCutOff case tells run held ⊎ ((whole : List ℕ) × IsRun case tells run held whole)
-Says case tells run held (Err fault) = ⊥
+-- What is said of an acquisition: its report; that the folder failed and the run was cut off, or that a peek failed, that a chunk
+-- was damaged or that there was no memory, and a session was not answered; or that there was no memory for what is done.
+abbrev pub Says : {A : Type 0} → Option Content → Bool → Asked → Script → Held → Type 0 → Type 0 → Result (String A) Fault → Type 0
+Says case tells run script held failed peeked (Ok report) = IsRun case tells run script held (string_bytes report)
+Says case tells run script held failed peeked (Err Folder) = (failed × IsCutOff case tells run held) ⊎ (peeked × IsLeftWhole case tells run held)
+Says case tells run script held failed peeked (Err (Damaged chunk recorded found)) = IsDamage tells recorded found × IsLeftWhole case tells run held
+Says case tells run script held failed peeked (Err Memory) = IsCutOff case tells run held ⊎ (IsLeftWhole case tells run held ⊎ ((whole : List ℕ) × IsRun case tells run script held whole))
+Says case tells run script held failed peeked (Err fault) = ⊥
 
--- a run may begin: by the words and devices that were handed in, with this UUID, and with the plan that all of the source's
--- text is; the folder is as it was
-pub record IsReady {F S D : Type 0} (ask : Request) (old new : Facts F S D) (uuid : List ℕ) (plan : Planned) : Type 0 where
+-- the end of a run is told: by the report of what was acquired, or by its fault; memory may be refused for the report
+abbrev pub IsToldAs : {A R : Type 0} → List ℕ → Planned → RunEnd R → Result (String A) Fault → Type 0
+IsToldAs uuid plan (run.Done a) (Ok written) =
+    string_bytes written ≡ report_text uuid plan.size (length plan.extents) (map published a.pieces.items) ++ (session_lines 1 (map (λ s. s.items) a.sessions.items) ++ hash_lines a.hashes)
+IsToldAs uuid plan (run.Done a) (Err fault) = fault ≡ Memory
+IsToldAs uuid plan run.Failed (Ok written) = ⊥
+IsToldAs uuid plan run.Failed (Err fault) = fault ≡ Folder
+IsToldAs uuid plan (run.Damaged chunk recorded found) (Ok written) = ⊥
+IsToldAs uuid plan (run.Damaged chunk recorded found) (Err fault) = fault ≡ Damaged chunk recorded found
+IsToldAs uuid plan run.Memory (Ok written) = ⊥
+IsToldAs uuid plan run.Memory (Err fault) = fault ≡ Memory
+
+-- a run may begin: by the words and devices that were handed in, with this UUID, and with the plan and the script that all of the
+-- source's text is; the folder is as it was
+pub record IsReady {F S D : Type 0} (ask : Request) (old new : Facts F S D) (uuid : List ℕ) (plan : Planned) (script : Script) : Type 0 where
   pub begun : IsBegun ask old
   pub named : uuid ≡ uuid_of ask.words
-  pub planned : IsPlanned old.devices old.left plan
+  pub planned : IsPlanned old.devices old.left plan script
   pub whole : IsAtEnd new.left
   pub held : IsTrue ask.tells → new.held ≡ old.held
   pub later : HaveNotFallen old new

@@ -3,7 +3,7 @@ use crate::fault::Fault;
 use aff_outside::{Device, Examiner, Folder};
 
 /// What a run gives back: its status, all that was handed in but the source and the sink, and the peeks that it made
-/// of the folder, of which there is none while no session reads.
+/// of the folder, one for each session.
 #[derive(Drop)]
 pub struct End<F: Folder> {
     pub status: u8,
@@ -13,10 +13,11 @@ pub struct End<F: Folder> {
     pub peeks: Vec<F::Peek>,
 }
 
-/// The report of a run or its fault, with what was handed in.
+/// The report of a run or its fault, with what was handed in and the peeks that were made.
 #[derive(Drop)]
 pub struct Ended<F: Folder> {
     pub outcome: Result<String, Fault>,
     pub devices: Vec<Box<dyn Device>>,
     pub folder: F,
+    pub peeks: Vec<F::Peek>,
 }

@@ -6,6 +6,7 @@ use aff_command::Refusal;
 use aff_model::Memory as NoMemory;
 use aff_outside::FolderError;
 use aff_plan::PlanError;
+use aff_script::ScriptError;
 use std::alloc::{AllocError, AllocFailed};
 
 /// Why the text of a source is refused.
@@ -15,12 +16,13 @@ pub enum TextFault {
     TooLong,
     /// It is no plan's.
     Plan(PlanError),
-    /// A script begins at this line, and no script is taken yet.
-    Script(u64),
+    /// The script behind its plan is refused.
+    Script(ScriptError),
 }
 
 /// The first fault of a run, in the order in which a run goes: the words, the devices that were handed in, the folder
-/// as it was found, the source, its text, the folder as it is written. `Memory` can come anywhere.
+/// as it was found, the source, its text, the folder as it is written and as sessions read it, a chunk that a session
+/// found damaged. `Memory` can come anywhere.
 #[derive(Clone, Copy, Debug, PartialEq, Eq)]
 pub enum Fault {
     Usage,
@@ -30,6 +32,12 @@ pub enum Fault {
     Source,
     Text(TextFault),
     Folder,
+    /// The bytes that were fetched of a chunk have another SHA-256 than was recorded of it.
+    Damaged {
+        chunk: u64,
+        recorded: [u8; 32],
+        found: [u8; 32],
+    },
     Memory,
 }
 

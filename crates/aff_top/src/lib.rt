@@ -5,13 +5,14 @@
 mod acquire;
 mod ended;
 mod fault;
-mod plan;
 mod request;
 mod run;
 mod source;
 mod tell;
+mod text;
 mod vacant;
 
 pub use aff_command::{Outside, outside};
+pub use aff_offline::run_offline;
 pub use ended::End;
 pub use run::run_words;

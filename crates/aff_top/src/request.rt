@@ -1,23 +1,25 @@
 //! Whether a run may begin.
-ghost use Rattle.std.specs.Prelude.{Option, map, IfErr, IfOk};
+ghost use Rattle.std.specs.Prelude.{[], Option, map, IfErr, IfOk};
 ghost use Rattle.aff_model.specs.Content.{Content};
 ghost use Rattle.aff_command.specs.Devices.{shown};
 ghost use Rattle.aff_top.specs.Outcomes.{IsFaultOf, IsReady, facts, request};
 
 use crate::fault::Fault;
-use crate::plan::read_plan;
+use crate::text::read_work;
 use crate::vacant::look_into;
 use aff_command::{acquisition, first_block, first_size, refused};
 use aff_model::Plan;
 use aff_names::Uuid;
 use aff_outside::{Device, Folder, Source};
+use aff_script::Script;
 use std::alloc::Global;
 
-/// The volume that a run makes, and the plan by which it goes.
+/// The volume that a run makes, the plan by which it goes, and what sessions ask meanwhile.
 #[derive(Drop)]
 pub struct Request {
     pub uuid: Uuid,
     pub plan: Plan,
+    pub script: Script,
 }
 
 /// Looks at the words, then at the devices, into the folder, and at all of the source's text. No device is read.
@@ -29,12 +31,12 @@ pub fn read_request<F: Folder, S: Source>(
     source: &mut S,
 ) -> Result<Request, Fault>
     ensures ready { IfOk result (λ r. (case : Option Content) → IsReady (request (map (λ w. w.now) words.now) case F.tells)
-        (facts F.Folder S.Source (map (λ d. shown (device_content d) (device_block d) (device_size d) (device_faults d)) devices.now) devices.now folder.old source.old)
-        (facts F.Folder S.Source (map (λ d. shown (device_content d) (device_block d) (device_size d) (device_faults d)) devices.now) devices.now folder.new source.new)
-        r.uuid r.plan) }
+        (facts F.Folder S.Source (map (λ d. shown (device_content d) (device_block d) (device_size d) (device_faults d)) devices.now) devices.now folder.old source.old [])
+        (facts F.Folder S.Source (map (λ d. shown (device_content d) (device_block d) (device_size d) (device_faults d)) devices.now) devices.now folder.new source.new [])
+        r.uuid r.plan r.script) }
     ensures refused { IfErr result (λ fault. (case : Option Content) → IsFaultOf fault (request (map (λ w. w.now) words.now) case F.tells)
-        (facts F.Folder S.Source (map (λ d. shown (device_content d) (device_block d) (device_size d) (device_faults d)) devices.now) devices.now folder.old source.old)
-        (facts F.Folder S.Source (map (λ d. shown (device_content d) (device_block d) (device_size d) (device_faults d)) devices.now) devices.now folder.new source.new)) }
+        (facts F.Folder S.Source (map (λ d. shown (device_content d) (device_block d) (device_size d) (device_faults d)) devices.now) devices.now folder.old source.old [])
+        (facts F.Folder S.Source (map (λ d. shown (device_content d) (device_block d) (device_size d) (device_faults d)) devices.now) devices.now folder.new source.new [])) }
 {
     let Some((_, uuid)) = acquisition(words) else {
         return Err(Fault::Usage);
@@ -45,8 +47,12 @@ pub fn read_request<F: Folder, S: Source>(
     if let Err(fault) = look_into(folder) {
         return Err(fault);
     }
-    match read_plan(alloc, source, first_size(devices), first_block(devices)) {
-        Ok(plan) => Ok(Request { uuid, plan }),
+    match read_work(alloc, source, first_size(devices), first_block(devices)) {
+        Ok(work) => Ok(Request {
+            uuid,
+            plan: work.plan,
+            script: work.script,
+        }),
         Err(fault) => Err(fault),
     }
 }

@@ -1,6 +1,10 @@
 //! The top call.
 ghost use Rattle.std.specs.Prelude.{◌≡◌, [], map, Some, All, IfSome};
+ghost use Rattle.aff_command.specs.Finished.{AreOffline};
 ghost use Rattle.aff_command.specs.Devices.{shown};
+ghost use Rattle.aff_offline.specs.Answered.{shown_folder};
+ghost use Rattle.aff_offline.specs.Outcomes.{IsOfflineOutcome};
+ghost use Rattle.aff_offline.specs.Written.{shown_sink};
 ghost use Rattle.aff_run.specs.Devices.{AreKept};
 ghost use Rattle.aff_top.specs.Outcomes.{IsOutcome, IsResult, facts, output, request};
 
@@ -8,7 +12,9 @@ use crate::acquire::acquire;
 use crate::ended::{End, Ended};
 use crate::request::read_request;
 use crate::tell::tell;
+use aff_command::offline;
 use aff_model::Case;
+use aff_offline::run_offline;
 use aff_outside::{Device, Examiner, Folder, Gate, Sink, Source};
 use std::alloc::Global;
 use std::sync::Wait;
@@ -31,8 +37,8 @@ fn perform<
 ) -> Ended<F>
     requires told { IfSome C.content (λ c. All (λ d. device_content d ≡ Some c) devices.items) }
     ensures answer { IsResult (request (map (λ w. w.now) words.now) C.content F.tells)
-        (facts F.Folder S.Source (map (λ d. shown (device_content d) (device_block d) (device_size d) (device_faults d)) devices.items) devices.items folder source.old)
-        (facts F.Folder S.Source (map (λ d. shown (device_content d) (device_block d) (device_size d) (device_faults d)) result.devices.items) result.devices.items result.folder source.new)
+        (facts F.Folder S.Source (map (λ d. shown (device_content d) (device_block d) (device_size d) (device_faults d)) devices.items) devices.items folder source.old [])
+        (facts F.Folder S.Source (map (λ d. shown (device_content d) (device_block d) (device_size d) (device_faults d)) result.devices.items) result.devices.items result.folder source.new (map (λ p. F.Peek.peek_faults p) result.peeks.items))
         result.outcome }
     ensures kept { AreKept (λ d. device_content d) (λ d. device_block d) (λ d. device_size d) (λ d. device_faults d) devices.items result.devices.items }
 {
@@ -43,6 +49,7 @@ fn perform<
             rt.alloc(),
             &asked.uuid,
             &asked.plan,
+            &asked.script,
             devices,
             folder,
             gate,
@@ -51,15 +58,85 @@ fn perform<
             outcome: Err(fault),
             devices,
             folder,
+            peeks: Vec::new(rt.alloc()),
         },
     }
 }
 
+// Acquires what the words ask for, from devices, and writes what is said of it.
+fn run_over_devices<
+    C: Case + Send + Sync,
+    F: Folder,
+    S: Source,
+    K: Sink,
+    G: Gate,
+    W: Alloc<A = Global> + Threads + Wait + Sync,
+>(
+    rt: &W,
+    words: &[&str],
+    devices: Vec<Box<dyn Device>>,
+    examiners: Vec<Box<dyn Examiner>>,
+    folder: F,
+    source: &mut S,
+    sink: &mut K,
+    gate: &G,
+) -> End<F>
+    requires told { IfSome C.content (λ c. All (λ d. device_content d ≡ Some c) devices.items) }
+    ensures outcome { IsOutcome (request (map (λ w. w.now) words.now) C.content F.tells)
+        (facts F.Folder S.Source (map (λ d. shown (device_content d) (device_block d) (device_size d) (device_faults d)) devices.items) devices.items folder source.old [])
+        (facts F.Folder S.Source (map (λ d. shown (device_content d) (device_block d) (device_size d) (device_faults d)) result.devices.items) result.devices.items result.folder source.new (map (λ p. F.Peek.peek_faults p) result.peeks.items))
+        (output K.Sink sink.old) (output K.Sink sink.new) result.status }
+    ensures kept { AreKept (λ d. device_content d) (λ d. device_block d) (λ d. device_size d) (λ d. device_faults d) devices.items result.devices.items }
+    ensures examiners { result.examiners.items ≡ examiners.items }
+{
+    let Ended {
+        outcome,
+        devices,
+        folder,
+        peeks,
+    } = perform::<C, F, S, G, W>(rt, words, devices, folder, source, gate);
+    let status = tell(rt.alloc(), sink, &outcome);
+    End {
+        status,
+        devices,
+        examiners,
+        folder,
+        peeks,
+    }
+}
+
+// Asks the finished volume of a folder, and hands all else back.
+fn run_over_volume<F: Folder, K: Sink>(
+    alloc: Global,
+    words: &[&str],
+    devices: Vec<Box<dyn Device>>,
+    examiners: Vec<Box<dyn Examiner>>,
+    folder: F,
+    sink: &mut K,
+) -> End<F>
+    ensures outcome { IsOfflineOutcome (map (λ w. w.now) words.now) F.tells (shown_folder F.Folder folder) (shown_folder F.Folder result.folder) (shown_sink K.Sink sink.old) (shown_sink K.Sink sink.new) result.status }
+    ensures devices { result.devices ≡ devices }
+    ensures examiners { result.examiners.items ≡ examiners.items }
+{
+    let mut folder = folder;
+    let status = run_offline(alloc, words, &mut folder, sink);
+    End {
+        status,
+        devices,
+        examiners,
+        folder,
+        peeks: Vec::new(alloc),
+    }
+}
+
 /// Does what the words ask for, over what is handed in, and answers the status. `acquire` and `acquire4k` read the plan
-/// from the source, acquire it into the folder, which has to be empty, by a worker for each device, and write the report
-/// to the sink; a fault's line is written in its place. The words only say by which blocks main opens the devices: the
-/// run goes by the blocks that they have. The report ends with the hashes of the volume, a line each: MD5, SHA-1, SHA-256
+/// and the script from the source, acquire the plan into the folder, which has to be empty, by a worker for each device,
+/// answer the script's sessions while the image grows, and write the report to the sink; a fault's line is written in its
+/// place. The words only say by which blocks main opens the devices: the run goes by the blocks that they have. The report
+/// has the publications, what each session was answered, and the hashes of the volume, a line each: MD5, SHA-1, SHA-256
 /// and SHA-512 of all bytes of the image, and the block map hash. It may wait: for the workers, and for the gate.
+///
+/// `read`, `info` and `verify` ask the finished volume of the folder, as `run_offline` does; they wait for nobody.
 pub fn run_words<
     C: Case + Send + Sync,
     F: Folder,
@@ -80,30 +157,25 @@ pub fn run_words<
     requires told { IfSome C.content (λ c. All (λ d. device_content d ≡ Some c) devices.items) }
     requires nobody { examiners.items ≡ [] }
 
-    // Why the run ended with its status, what it leaves in the folder, and what it wrote.
-    ensures outcome { IsOutcome (request (map (λ w. w.now) words.now) C.content F.tells)
-        (facts F.Folder S.Source (map (λ d. shown (device_content d) (device_block d) (device_size d) (device_faults d)) devices.items) devices.items folder source.old)
-        (facts F.Folder S.Source (map (λ d. shown (device_content d) (device_block d) (device_size d) (device_faults d)) result.devices.items) result.devices.items result.folder source.new)
+    // Unless a finished volume is asked: why the run ended with its status, what it leaves in the folder, and what it wrote.
+    ensures outcome { ¬ (AreOffline (map (λ w. w.now) words.now)) → IsOutcome (request (map (λ w. w.now) words.now) C.content F.tells)
+        (facts F.Folder S.Source (map (λ d. shown (device_content d) (device_block d) (device_size d) (device_faults d)) devices.items) devices.items folder source.old [])
+        (facts F.Folder S.Source (map (λ d. shown (device_content d) (device_block d) (device_size d) (device_faults d)) result.devices.items) result.devices.items result.folder source.new (map (λ p. F.Peek.peek_faults p) result.peeks.items))
         (output K.Sink sink.old) (output K.Sink sink.new) result.status }
+
+    // Of a finished volume: why the command ended with its status, and what it wrote. Devices and source stay as they are.
+    ensures offline { AreOffline (map (λ w. w.now) words.now)
+        → IsOfflineOutcome (map (λ w. w.now) words.now) F.tells (shown_folder F.Folder folder) (shown_folder F.Folder result.folder) (shown_sink K.Sink sink.old) (shown_sink K.Sink sink.new) result.status }
+    ensures unused { AreOffline (map (λ w. w.now) words.now) → (result.devices ≡ devices) × (source.new ≡ source.old) }
 
     // What was handed in comes back.
     ensures kept { AreKept (λ d. device_content d) (λ d. device_block d) (λ d. device_size d) (λ d. device_faults d) devices.items result.devices.items }
     ensures examiners { result.examiners.items ≡ examiners.items }
-
-    // No session reads yet.
-    ensures peeks { result.peeks.items ≡ [] }
 {
-    let Ended {
-        outcome,
-        devices,
-        folder,
-    } = perform::<C, F, S, G, W>(rt, words, devices, folder, source, gate);
-    let status = tell(rt.alloc(), sink, &outcome);
-    End {
-        status,
-        devices,
-        examiners,
-        folder,
-        peeks: Vec::new(rt.alloc()),
+    match offline(words) {
+        Some(_) => run_over_volume(rt.alloc(), words, devices, examiners, folder, sink),
+        None => run_over_devices::<C, F, S, K, G, W>(
+            rt, words, devices, examiners, folder, source, sink, gate,
+        ),
     }
 }

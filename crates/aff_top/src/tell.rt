@@ -3,12 +3,14 @@ ghost use Rattle.std.specs.Prelude.{◌≡◌, ◌⊎◌, ◌++◌, codes, IfOk}
 ghost use Rattle.std.specs.Io.KnownBytes.{Appends, Keeps};
 ghost use Rattle.std.specs.String.{string_bytes};
 ghost use Rattle.aff_top.specs.Outcomes.{IsWrittenInPart, IsTold, code_of, line_of, output};
-ghost use Rattle.aff_top.specs.Texts.{plan_line, text_line};
+ghost use Rattle.aff_top.specs.Texts.{plan_line, script_line, text_line};
 
 use crate::fault::{Fault, TextFault};
 use aff_command::refusal_line;
 use aff_outside::{Sink, SinkError};
 use aff_plan::PlanError;
+use aff_report::damaged_line;
+use aff_script::ScriptError;
 use std::alloc::{AllocError, Global};
 
 // The line of a text that is no plan's.
@@ -31,6 +33,20 @@ fn plan_refusal(alloc: Global, error: PlanError) -> Result<String, AllocError>
     }
 }
 
+// The line of a text whose script is refused.
+fn script_refusal(alloc: Global, error: ScriptError) -> Result<String, AllocError>
+    ensures { IfOk result (λ line. string_bytes line ≡ script_line error) }
+{
+    match error {
+        ScriptError::Shape(line) => format!(in alloc; "error script {line} shape\n"),
+        ScriptError::Number(line) => format!(in alloc; "error script {line} number\n"),
+        ScriptError::TooMany(line) => format!(in alloc; "error script {line} toomany\n"),
+        ScriptError::TooLong(line) => format!(in alloc; "error script {line} toolong\n"),
+        ScriptError::PastEnd(line) => format!(in alloc; "error script {line} pastend\n"),
+        ScriptError::Memory => format!(in alloc; "error memory\n"),
+    }
+}
+
 // The line of a refused text.
 fn text_refusal(alloc: Global, fault: TextFault) -> Result<String, AllocError>
     ensures { IfOk result (λ line. string_bytes line ≡ text_line fault) }
@@ -38,7 +54,7 @@ fn text_refusal(alloc: Global, fault: TextFault) -> Result<String, AllocError>
     match fault {
         TextFault::TooLong => format!(in alloc; "error text\n"),
         TextFault::Plan(error) => plan_refusal(alloc, error),
-        TextFault::Script(line) => format!(in alloc; "error script {line} shape\n"),
+        TextFault::Script(error) => script_refusal(alloc, error),
     }
 }
 
@@ -53,6 +69,11 @@ fn line(alloc: Global, fault: Fault) -> Result<String, AllocError>
         Fault::Folder => format!(in alloc; "error folder\n"),
         Fault::Memory => format!(in alloc; "error memory\n"),
         Fault::Occupied => format!(in alloc; "error occupied\n"),
+        Fault::Damaged {
+            chunk,
+            recorded,
+            found,
+        } => damaged_line(alloc, chunk, &recorded, &found),
         Fault::Devices(refusal) => refusal_line(alloc, refusal),
     }
 }
@@ -80,6 +101,7 @@ fn code(fault: Fault) -> u8
         Fault::Folder => 6,
         Fault::Memory => 7,
         Fault::Occupied => 8,
+        Fault::Damaged { .. } => 9,
         Fault::Devices(_) => 10,
     }
 }

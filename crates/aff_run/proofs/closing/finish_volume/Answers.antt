@@ -1,12 +1,11 @@
 use Rattle.std.proofs.Common.{◌≡◌, length, map, sym, ap, subst, ◌∙◌}
-use Rattle.aff_map.specs.Mappable.{AreMappable}
 use Rattle.aff_model.specs.Pieces.{published}
 use Rattle.aff_spec.specs.Appends.{applied, Reaches}
 use Rattle.aff_spec.specs.Runs.{AreGreatestRuns, history_spot}
 use Rattle.aff_spec.specs.Walks.{IsWalkable}
 use Rattle.aff_finish.specs.Finishing.{AreHashesOf, HasEnded, ended, finish_appends}
 use Rattle.aff_run.specs.Ends.{asked}
-use Rattle.aff_run.proofs.Ends.{cut_off_behind, cut_off_here, few_chunks, has_all, is_acquired, mappable, walks}
+use Rattle.aff_run.proofs.Ends.{cut_off_behind, cut_off_here, few_chunks, has_all, is_whole, mappable, walks}
 use Rattle.aff_run.proofs.closing.finish_volume.Goals as goal
 
 pub entries_of-requires : goal.entries_of-requires
@@ -16,17 +15,17 @@ entries_of-requires g c =
     let ask = asked c.args.volume.now c.args.plan.now g.N.Named.run_workers in
     let mid = g.F.Folder.held c.args.folder.now in
     let w = c.args.stream.now in
-    let history = map published c.args.pieces.items in
-    subst (λ v. AreMappable ask.plan.extents (map published v)) (sym c.deref.ensures.value) (mappable case tells ask c.requires.plan c.text-text.ensures.uuid mid w history c.requires.stored)
+    let history = map published c.args.pieces.now in
+    mappable case tells ask c.requires.plan c.text-text.ensures.uuid mid w history c.requires.stored
 
-pub returns-in-Err-clause-leaves : goal.returns-in-Err-clause-leaves
-returns-in-Err-clause-leaves g c =
+pub returns-in-Err-clause-cut_off : goal.returns-in-Err-clause-cut_off
+returns-in-Err-clause-cut_off g c =
     let case = g.C.Case.content in
     let tells = g.F.Folder.tells in
     let ask = asked c.args.volume.now c.args.plan.now g.N.Named.run_workers in
     let mid = g.F.Folder.held c.args.folder.now in
     let w = c.args.stream.now in
-    let history = map published c.args.pieces.items in
+    let history = map published c.args.pieces.now in
     cut_off_here case tells ask c.requires.plan c.text-text.ensures.uuid mid w history c.requires.stored
 
 pub finish-requires-clause-few : goal.finish-requires-clause-few
@@ -36,7 +35,7 @@ finish-requires-clause-few g c κs within =
     let ask = asked c.args.volume.now c.args.plan.now g.N.Named.run_workers in
     let mid = g.F.Folder.held c.args.folder.now in
     let w = c.args.stream.now in
-    let history = map published c.args.pieces.items in
+    let history = map published c.args.pieces.now in
     few_chunks case tells ask c.requires.plan c.text-text.ensures.uuid mid w history c.requires.stored
 
 pub finish-requires-clause-walkable : goal.finish-requires-clause-walkable
@@ -46,11 +45,11 @@ finish-requires-clause-walkable g c κs within =
     let ask = asked c.args.volume.now c.args.plan.now g.N.Named.run_workers in
     let mid = g.F.Folder.held c.args.folder.now in
     let w = c.args.stream.now in
-    let history = map published c.args.pieces.items in
+    let history = map published c.args.pieces.now in
     let entries = c.in-Ok.entries.items in
     let runs : AreGreatestRuns (history_spot ask.plan.extents history) entries =
-    subst (λ v. AreGreatestRuns (history_spot ask.plan.extents (map published v)) entries) c.deref.ensures.value c.in-Ok.ensures.runs in
-    subst (λ es. IsWalkable tells (ended ask.uuid w.chunks es mid) ask.uuid ask.plan.size es) (sym c.deref-2.ensures.value)
+    c.in-Ok.ensures.runs in
+    subst (λ es. IsWalkable tells (ended ask.uuid w.chunks es mid) ask.uuid ask.plan.size es) (sym c.deref.ensures.value)
     (walks case tells ask c.requires.plan c.text-text.ensures.uuid mid w history c.requires.stored c.requires.small c.requires.complete entries runs c.in-Ok.ensures.fits)
 
 pub finish-requires-clause-there : goal.finish-requires-clause-there
@@ -60,55 +59,40 @@ finish-requires-clause-there g c κs within =
     let ask = asked c.args.volume.now c.args.plan.now g.N.Named.run_workers in
     let mid = g.F.Folder.held c.args.folder.now in
     let w = c.args.stream.now in
-    let history = map published c.args.pieces.items in
+    let history = map published c.args.pieces.now in
     let entries = c.in-Ok.entries.items in
     let runs : AreGreatestRuns (history_spot ask.plan.extents history) entries =
-    subst (λ v. AreGreatestRuns (history_spot ask.plan.extents (map published v)) entries) c.deref.ensures.value c.in-Ok.ensures.runs in
-    λ t. subst (λ es. HasEnded (ended ask.uuid w.chunks es mid) ask.uuid (length w.chunks) es) (sym c.deref-2.ensures.value)
+    c.in-Ok.ensures.runs in
+    λ t. subst (λ es. HasEnded (ended ask.uuid w.chunks es mid) ask.uuid (length w.chunks) es) (sym c.deref.ensures.value)
     (has_all case tells ask c.requires.plan c.text-text.ensures.uuid mid w history c.requires.stored c.requires.small c.requires.complete entries runs c.in-Ok.ensures.fits t)
 
-pub returns-in-Ok-finish-clause-leaves : goal.returns-in-Ok-finish-clause-leaves
-returns-in-Ok-finish-clause-leaves g c =
+pub returns-in-Ok-finish-clause-whole : goal.returns-in-Ok-finish-clause-whole
+returns-in-Ok-finish-clause-whole g c =
     let case = g.C.Case.content in
     let tells = g.F.Folder.tells in
     let ask = asked c.args.volume.now c.args.plan.now g.N.Named.run_workers in
     let mid = g.F.Folder.held c.args.folder.now in
     let w = c.args.stream.now in
-    let history = map published c.args.pieces.items in
+    let history = map published c.args.pieces.now in
     let entries = c.in-Ok.entries.items in
     let runs : AreGreatestRuns (history_spot ask.plan.extents history) entries =
-    subst (λ v. AreGreatestRuns (history_spot ask.plan.extents (map published v)) entries) c.deref.ensures.value c.in-Ok.ensures.runs in
+    c.in-Ok.ensures.runs in
     let new = g.F.Folder.held c.finish.new.folder in
-    is_acquired case tells ask c.requires.plan c.text-text.ensures.uuid mid w history c.requires.stored c.requires.small c.requires.complete entries runs c.in-Ok.ensures.fits new c.in-Ok-finish.hashes
-    (λ t. c.in-Ok-finish.ensures.ok t ∙ ap (λ es. applied mid (finish_appends ask.uuid ask.plan.size w.chunks es mid)) c.deref-2.ensures.value)
-    (subst (λ es. AreHashesOf tells (ended ask.uuid w.chunks es mid) ask.uuid ask.plan.size (length w.chunks) c.in-Ok-finish.hashes) c.deref-2.ensures.value c.in-Ok-finish.ensures.hashes)
+    is_whole case tells ask c.requires.plan c.text-text.ensures.uuid mid w history c.requires.stored c.requires.small c.requires.complete entries runs c.in-Ok.ensures.fits new c.in-Ok-finish.hashes
+    (λ t. c.in-Ok-finish.ensures.ok t ∙ ap (λ es. applied mid (finish_appends ask.uuid ask.plan.size w.chunks es mid)) c.deref.ensures.value)
+    (subst (λ es. AreHashesOf tells (ended ask.uuid w.chunks es mid) ask.uuid ask.plan.size (length w.chunks) c.in-Ok-finish.hashes) c.deref.ensures.value c.in-Ok-finish.ensures.hashes)
 
-pub returns-in-Err-Failed-clause-leaves : goal.returns-in-Err-Failed-clause-leaves
-returns-in-Err-Failed-clause-leaves g c =
+pub returns-clause-cut_off : goal.returns-clause-cut_off
+returns-clause-cut_off g c =
     let case = g.C.Case.content in
     let tells = g.F.Folder.tells in
     let ask = asked c.args.volume.now c.args.plan.now g.N.Named.run_workers in
     let mid = g.F.Folder.held c.args.folder.now in
     let w = c.args.stream.now in
-    let history = map published c.args.pieces.items in
+    let history = map published c.args.pieces.now in
     let entries = c.in-Ok.entries.items in
     let runs : AreGreatestRuns (history_spot ask.plan.extents history) entries =
-    subst (λ v. AreGreatestRuns (history_spot ask.plan.extents (map published v)) entries) c.deref.ensures.value c.in-Ok.ensures.runs in
+    c.in-Ok.ensures.runs in
     let new = g.F.Folder.held c.finish.new.folder in
     cut_off_behind case tells ask c.requires.plan c.text-text.ensures.uuid mid w history c.requires.stored c.requires.small c.requires.complete entries runs c.in-Ok.ensures.fits new
-    (λ t. subst (λ es. Reaches mid (finish_appends ask.uuid ask.plan.size w.chunks es mid) new) c.deref-2.ensures.value (c.in-Err-Failed.ensures.part t))
-
-pub returns-clause-leaves : goal.returns-clause-leaves
-returns-clause-leaves g c =
-    let case = g.C.Case.content in
-    let tells = g.F.Folder.tells in
-    let ask = asked c.args.volume.now c.args.plan.now g.N.Named.run_workers in
-    let mid = g.F.Folder.held c.args.folder.now in
-    let w = c.args.stream.now in
-    let history = map published c.args.pieces.items in
-    let entries = c.in-Ok.entries.items in
-    let runs : AreGreatestRuns (history_spot ask.plan.extents history) entries =
-    subst (λ v. AreGreatestRuns (history_spot ask.plan.extents (map published v)) entries) c.deref.ensures.value c.in-Ok.ensures.runs in
-    let new = g.F.Folder.held c.finish.new.folder in
-    cut_off_behind case tells ask c.requires.plan c.text-text.ensures.uuid mid w history c.requires.stored c.requires.small c.requires.complete entries runs c.in-Ok.ensures.fits new
-    (λ t. subst (λ es. Reaches mid (finish_appends ask.uuid ask.plan.size w.chunks es mid) new) c.deref-2.ensures.value (c.in-Err-Memory.ensures.part t))
+    (λ t. subst (λ es. Reaches mid (finish_appends ask.uuid ask.plan.size w.chunks es mid) new) c.deref.ensures.value (c.in-Err-finish.ensures.part t))

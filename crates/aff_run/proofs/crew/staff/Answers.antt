@@ -5,7 +5,7 @@ use Rattle.std.proofs.lemmas.List.Elements.{All-head, All-tail}
 use Rattle.aff_claim.specs.Values.{Claiming}
 use Rattle.aff_worker.specs.declared.worker.Worker.{Worker}
 use Rattle.aff_run.specs.declared.crew.Kit.{Kit}
-use Rattle.aff_run.proofs.Crews.{staffed, staffed_can}
+use Rattle.aff_run.proofs.Crews.{staffed, staffed_can, staffed_sessions}
 use Rattle.aff_run.proofs.crew.staff.Goals as goal
 
 pub loop-device-preserved : goal.loop-device-preserved
@@ -24,13 +24,15 @@ loop-device-preserved g c =
       λ claims workers all.
           All-tail (λ (k : Kit). (k.pass.claims ≡ claims) × (k.pass.view.number < workers)) c.in-Some-next.field-0 rest
           (subst (All (λ (k : Kit). (k.pass.claims ≡ claims) × (k.pass.view.number < workers))) kit.items (i.4 claims workers all)),
-      λ claims workers plan all fit.
+      λ list claims workers plan all fit.
           let one = All-head (λ (k : Kit). (k.pass.claims ≡ claims) × (k.pass.view.number < workers)) c.in-Some-next.field-0 rest
           (subst (All (λ (k : Kit). (k.pass.claims ≡ claims) × (k.pass.view.number < workers))) kit.items (i.4 claims workers all)) in
           staffed_can (λ d. (goal.Device-dyn g (d.vtable, d.value)).device_content d.value) (λ d. (goal.Device-dyn g (d.vtable, d.value)).device_block d.value) (λ d. (goal.Device-dyn g (d.vtable, d.value)).device_size d.value)
-          claims workers g.C.Case.content plan tasks news w c.push_reserved.ensures.items one.0 one.1 (i.5 claims workers plan all) fit,
+          list claims workers g.C.Case.content plan tasks news w c.push_reserved.ensures.items one.0 one.1 (i.5 list claims workers plan all) fit,
+      staffed_sessions tasks news w c.push_reserved.ensures.items i.6,
+      c.push_reserved.ensures.capacity ∙ i.7,
     )
 
 pub returns-clause-tasks : goal.returns-clause-tasks
-returns-clause-tasks g c = λ claims workers plan all fit.
-    c.loop-device.invariant.5 claims workers plan (subst (All (λ (k : Kit). (k.pass.claims ≡ claims) × (k.pass.view.number < workers))) (sym c.into_iter-kits.ensures.rest) all) fit
+returns-clause-tasks g c = λ list claims workers plan all fit.
+    c.loop-device.invariant.5 list claims workers plan (subst (All (λ (k : Kit). (k.pass.claims ≡ claims) × (k.pass.view.number < workers))) (sym c.into_iter-kits.ensures.rest) all) fit

@@ -1,4 +1,4 @@
-use Rattle.std.proofs.Common.{◌≡◌, ◌≤◌, length, vec_len, map, refl, ap, subst, ◌∙◌, arith}
+use Rattle.std.proofs.Common.{[], ◌≡◌, ◌≤◌, length, vec_len, map, refl, ap, subst, subst₂, sym, ◌∙◌, arith}
 use Rattle.std.proofs.lemmas.List.{length-map}
 use Rattle.aff_command.specs.Devices.{shown}
 use Rattle.aff_top.specs.Outcomes.{IsFaultOf, IsReady, facts, request}
@@ -13,9 +13,9 @@ acquire-requires-clause-count g c κs within =
     subst
     (λ v.
     IsReady (request (map (λ w. w.now) c.args.words.now) g.C.Case.content g.F.Folder.tells)
-    (facts g.F.Folder g.S.Source (map (λ d. shown ((g.dyn-1.0.entry d.vtable).1.device_content d.value) ((g.dyn-1.0.entry d.vtable).1.device_block d.value) ((g.dyn-1.0.entry d.vtable).1.device_size d.value) ((g.dyn-1.0.entry d.vtable).1.device_faults d.value)) v) v c.args.folder c.args.source.now)
-    (facts g.F.Folder g.S.Source (map (λ d. shown ((g.dyn-1.0.entry d.vtable).1.device_content d.value) ((g.dyn-1.0.entry d.vtable).1.device_block d.value) ((g.dyn-1.0.entry d.vtable).1.device_size d.value) ((g.dyn-1.0.entry d.vtable).1.device_faults d.value)) v) v c.read_request.new.folder c.read_request.new.source)
-    c.in-Ok.asked.uuid c.in-Ok.asked.plan)
+    (facts g.F.Folder g.S.Source (map (λ d. shown ((g.dyn-1.0.entry d.vtable).1.device_content d.value) ((g.dyn-1.0.entry d.vtable).1.device_block d.value) ((g.dyn-1.0.entry d.vtable).1.device_size d.value) ((g.dyn-1.0.entry d.vtable).1.device_faults d.value)) v) v c.args.folder c.args.source.now [])
+    (facts g.F.Folder g.S.Source (map (λ d. shown ((g.dyn-1.0.entry d.vtable).1.device_content d.value) ((g.dyn-1.0.entry d.vtable).1.device_block d.value) ((g.dyn-1.0.entry d.vtable).1.device_size d.value) ((g.dyn-1.0.entry d.vtable).1.device_faults d.value)) v) v c.read_request.new.folder c.read_request.new.source [])
+    c.in-Ok.asked.uuid c.in-Ok.asked.plan c.in-Ok.asked.script)
     c.deref.ensures.value (c.in-Ok.ensures.ready g.C.Case.content) in
     let some = some_devices (λ d. shown ((g.dyn-1.0.entry d.vtable).1.device_content d.value) ((g.dyn-1.0.entry d.vtable).1.device_block d.value) ((g.dyn-1.0.entry d.vtable).1.device_size d.value) ((g.dyn-1.0.entry d.vtable).1.device_faults d.value)) items ready.planned.fit in
     (omega (arith, some.0, c.deref.ensures.len, ap length c.deref.ensures.value), omega (arith, some.1, c.deref.ensures.len, ap length c.deref.ensures.value))
@@ -27,9 +27,9 @@ acquire-requires-clause-devices g c κs within =
     subst
     (λ v.
     IsReady (request (map (λ w. w.now) c.args.words.now) g.C.Case.content g.F.Folder.tells)
-    (facts g.F.Folder g.S.Source (map (λ d. shown ((g.dyn-1.0.entry d.vtable).1.device_content d.value) ((g.dyn-1.0.entry d.vtable).1.device_block d.value) ((g.dyn-1.0.entry d.vtable).1.device_size d.value) ((g.dyn-1.0.entry d.vtable).1.device_faults d.value)) v) v c.args.folder c.args.source.now)
-    (facts g.F.Folder g.S.Source (map (λ d. shown ((g.dyn-1.0.entry d.vtable).1.device_content d.value) ((g.dyn-1.0.entry d.vtable).1.device_block d.value) ((g.dyn-1.0.entry d.vtable).1.device_size d.value) ((g.dyn-1.0.entry d.vtable).1.device_faults d.value)) v) v c.read_request.new.folder c.read_request.new.source)
-    c.in-Ok.asked.uuid c.in-Ok.asked.plan)
+    (facts g.F.Folder g.S.Source (map (λ d. shown ((g.dyn-1.0.entry d.vtable).1.device_content d.value) ((g.dyn-1.0.entry d.vtable).1.device_block d.value) ((g.dyn-1.0.entry d.vtable).1.device_size d.value) ((g.dyn-1.0.entry d.vtable).1.device_faults d.value)) v) v c.args.folder c.args.source.now [])
+    (facts g.F.Folder g.S.Source (map (λ d. shown ((g.dyn-1.0.entry d.vtable).1.device_content d.value) ((g.dyn-1.0.entry d.vtable).1.device_block d.value) ((g.dyn-1.0.entry d.vtable).1.device_size d.value) ((g.dyn-1.0.entry d.vtable).1.device_faults d.value)) v) v c.read_request.new.folder c.read_request.new.source [])
+    c.in-Ok.asked.uuid c.in-Ok.asked.plan c.in-Ok.asked.script)
     c.deref.ensures.value (c.in-Ok.ensures.ready g.C.Case.content) in
     all_fit (λ d. shown ((g.dyn-1.0.entry d.vtable).1.device_content d.value) ((g.dyn-1.0.entry d.vtable).1.device_block d.value) ((g.dyn-1.0.entry d.vtable).1.device_size d.value) ((g.dyn-1.0.entry d.vtable).1.device_faults d.value)) g.C.Case.content c.in-Ok.asked.plan items ready.planned.fit ready.planned.size ready.planned.block c.requires.told
 
@@ -40,9 +40,9 @@ acquire-requires-clause-plan g c κs within =
     subst
     (λ v.
     IsReady (request (map (λ w. w.now) c.args.words.now) g.C.Case.content g.F.Folder.tells)
-    (facts g.F.Folder g.S.Source (map (λ d. shown ((g.dyn-1.0.entry d.vtable).1.device_content d.value) ((g.dyn-1.0.entry d.vtable).1.device_block d.value) ((g.dyn-1.0.entry d.vtable).1.device_size d.value) ((g.dyn-1.0.entry d.vtable).1.device_faults d.value)) v) v c.args.folder c.args.source.now)
-    (facts g.F.Folder g.S.Source (map (λ d. shown ((g.dyn-1.0.entry d.vtable).1.device_content d.value) ((g.dyn-1.0.entry d.vtable).1.device_block d.value) ((g.dyn-1.0.entry d.vtable).1.device_size d.value) ((g.dyn-1.0.entry d.vtable).1.device_faults d.value)) v) v c.read_request.new.folder c.read_request.new.source)
-    c.in-Ok.asked.uuid c.in-Ok.asked.plan)
+    (facts g.F.Folder g.S.Source (map (λ d. shown ((g.dyn-1.0.entry d.vtable).1.device_content d.value) ((g.dyn-1.0.entry d.vtable).1.device_block d.value) ((g.dyn-1.0.entry d.vtable).1.device_size d.value) ((g.dyn-1.0.entry d.vtable).1.device_faults d.value)) v) v c.args.folder c.args.source.now [])
+    (facts g.F.Folder g.S.Source (map (λ d. shown ((g.dyn-1.0.entry d.vtable).1.device_content d.value) ((g.dyn-1.0.entry d.vtable).1.device_block d.value) ((g.dyn-1.0.entry d.vtable).1.device_size d.value) ((g.dyn-1.0.entry d.vtable).1.device_faults d.value)) v) v c.read_request.new.folder c.read_request.new.source [])
+    c.in-Ok.asked.uuid c.in-Ok.asked.plan c.in-Ok.asked.script)
     c.deref.ensures.value (c.in-Ok.ensures.ready g.C.Case.content) in
     ready.planned.is_plan
 
@@ -53,11 +53,24 @@ acquire-requires-clause-small g c κs within =
     subst
     (λ v.
     IsReady (request (map (λ w. w.now) c.args.words.now) g.C.Case.content g.F.Folder.tells)
-    (facts g.F.Folder g.S.Source (map (λ d. shown ((g.dyn-1.0.entry d.vtable).1.device_content d.value) ((g.dyn-1.0.entry d.vtable).1.device_block d.value) ((g.dyn-1.0.entry d.vtable).1.device_size d.value) ((g.dyn-1.0.entry d.vtable).1.device_faults d.value)) v) v c.args.folder c.args.source.now)
-    (facts g.F.Folder g.S.Source (map (λ d. shown ((g.dyn-1.0.entry d.vtable).1.device_content d.value) ((g.dyn-1.0.entry d.vtable).1.device_block d.value) ((g.dyn-1.0.entry d.vtable).1.device_size d.value) ((g.dyn-1.0.entry d.vtable).1.device_faults d.value)) v) v c.read_request.new.folder c.read_request.new.source)
-    c.in-Ok.asked.uuid c.in-Ok.asked.plan)
+    (facts g.F.Folder g.S.Source (map (λ d. shown ((g.dyn-1.0.entry d.vtable).1.device_content d.value) ((g.dyn-1.0.entry d.vtable).1.device_block d.value) ((g.dyn-1.0.entry d.vtable).1.device_size d.value) ((g.dyn-1.0.entry d.vtable).1.device_faults d.value)) v) v c.args.folder c.args.source.now [])
+    (facts g.F.Folder g.S.Source (map (λ d. shown ((g.dyn-1.0.entry d.vtable).1.device_content d.value) ((g.dyn-1.0.entry d.vtable).1.device_block d.value) ((g.dyn-1.0.entry d.vtable).1.device_size d.value) ((g.dyn-1.0.entry d.vtable).1.device_faults d.value)) v) v c.read_request.new.folder c.read_request.new.source [])
+    c.in-Ok.asked.uuid c.in-Ok.asked.plan c.in-Ok.asked.script)
     c.deref.ensures.value (c.in-Ok.ensures.ready g.C.Case.content) in
     omega (arith, ready.planned.size, ready.planned.fit.accepted.bounded)
+
+pub acquire-requires-clause-script : goal.acquire-requires-clause-script
+acquire-requires-clause-script g c κs within =
+    let items = c.args.devices.items in
+    let ready =
+    subst
+    (λ v.
+    IsReady (request (map (λ w. w.now) c.args.words.now) g.C.Case.content g.F.Folder.tells)
+    (facts g.F.Folder g.S.Source (map (λ d. shown ((g.dyn-1.0.entry d.vtable).1.device_content d.value) ((g.dyn-1.0.entry d.vtable).1.device_block d.value) ((g.dyn-1.0.entry d.vtable).1.device_size d.value) ((g.dyn-1.0.entry d.vtable).1.device_faults d.value)) v) v c.args.folder c.args.source.now [])
+    (facts g.F.Folder g.S.Source (map (λ d. shown ((g.dyn-1.0.entry d.vtable).1.device_content d.value) ((g.dyn-1.0.entry d.vtable).1.device_block d.value) ((g.dyn-1.0.entry d.vtable).1.device_size d.value) ((g.dyn-1.0.entry d.vtable).1.device_faults d.value)) v) v c.read_request.new.folder c.read_request.new.source [])
+    c.in-Ok.asked.uuid c.in-Ok.asked.plan c.in-Ok.asked.script)
+    c.deref.ensures.value (c.in-Ok.ensures.ready g.C.Case.content) in
+    ready.planned.is_script
 
 pub acquire-requires-clause-empty : goal.acquire-requires-clause-empty
 acquire-requires-clause-empty g c κs within = λ t.
@@ -66,9 +79,9 @@ acquire-requires-clause-empty g c κs within = λ t.
     subst
     (λ v.
     IsReady (request (map (λ w. w.now) c.args.words.now) g.C.Case.content g.F.Folder.tells)
-    (facts g.F.Folder g.S.Source (map (λ d. shown ((g.dyn-1.0.entry d.vtable).1.device_content d.value) ((g.dyn-1.0.entry d.vtable).1.device_block d.value) ((g.dyn-1.0.entry d.vtable).1.device_size d.value) ((g.dyn-1.0.entry d.vtable).1.device_faults d.value)) v) v c.args.folder c.args.source.now)
-    (facts g.F.Folder g.S.Source (map (λ d. shown ((g.dyn-1.0.entry d.vtable).1.device_content d.value) ((g.dyn-1.0.entry d.vtable).1.device_block d.value) ((g.dyn-1.0.entry d.vtable).1.device_size d.value) ((g.dyn-1.0.entry d.vtable).1.device_faults d.value)) v) v c.read_request.new.folder c.read_request.new.source)
-    c.in-Ok.asked.uuid c.in-Ok.asked.plan)
+    (facts g.F.Folder g.S.Source (map (λ d. shown ((g.dyn-1.0.entry d.vtable).1.device_content d.value) ((g.dyn-1.0.entry d.vtable).1.device_block d.value) ((g.dyn-1.0.entry d.vtable).1.device_size d.value) ((g.dyn-1.0.entry d.vtable).1.device_faults d.value)) v) v c.args.folder c.args.source.now [])
+    (facts g.F.Folder g.S.Source (map (λ d. shown ((g.dyn-1.0.entry d.vtable).1.device_content d.value) ((g.dyn-1.0.entry d.vtable).1.device_block d.value) ((g.dyn-1.0.entry d.vtable).1.device_size d.value) ((g.dyn-1.0.entry d.vtable).1.device_faults d.value)) v) v c.read_request.new.folder c.read_request.new.source [])
+    c.in-Ok.asked.uuid c.in-Ok.asked.plan c.in-Ok.asked.script)
     c.deref.ensures.value (c.in-Ok.ensures.ready g.C.Case.content) in
     ready.held t ∙ ready.begun.free t
 
@@ -79,24 +92,24 @@ returns-in-Ok-clause-answer g c =
     subst
     (λ v.
     IsReady (request (map (λ w. w.now) c.args.words.now) g.C.Case.content g.F.Folder.tells)
-    (facts g.F.Folder g.S.Source (map (λ d. shown ((g.dyn-1.0.entry d.vtable).1.device_content d.value) ((g.dyn-1.0.entry d.vtable).1.device_block d.value) ((g.dyn-1.0.entry d.vtable).1.device_size d.value) ((g.dyn-1.0.entry d.vtable).1.device_faults d.value)) v) v c.args.folder c.args.source.now)
-    (facts g.F.Folder g.S.Source (map (λ d. shown ((g.dyn-1.0.entry d.vtable).1.device_content d.value) ((g.dyn-1.0.entry d.vtable).1.device_block d.value) ((g.dyn-1.0.entry d.vtable).1.device_size d.value) ((g.dyn-1.0.entry d.vtable).1.device_faults d.value)) v) v c.read_request.new.folder c.read_request.new.source)
-    c.in-Ok.asked.uuid c.in-Ok.asked.plan)
+    (facts g.F.Folder g.S.Source (map (λ d. shown ((g.dyn-1.0.entry d.vtable).1.device_content d.value) ((g.dyn-1.0.entry d.vtable).1.device_block d.value) ((g.dyn-1.0.entry d.vtable).1.device_size d.value) ((g.dyn-1.0.entry d.vtable).1.device_faults d.value)) v) v c.args.folder c.args.source.now [])
+    (facts g.F.Folder g.S.Source (map (λ d. shown ((g.dyn-1.0.entry d.vtable).1.device_content d.value) ((g.dyn-1.0.entry d.vtable).1.device_block d.value) ((g.dyn-1.0.entry d.vtable).1.device_size d.value) ((g.dyn-1.0.entry d.vtable).1.device_faults d.value)) v) v c.read_request.new.folder c.read_request.new.source [])
+    c.in-Ok.asked.uuid c.in-Ok.asked.plan c.in-Ok.asked.script)
     c.deref.ensures.value (c.in-Ok.ensures.ready g.C.Case.content) in
     let ended = c.acquire.result in
-    let old = facts g.F.Folder g.S.Source (map (λ d. shown ((g.dyn-1.0.entry d.vtable).1.device_content d.value) ((g.dyn-1.0.entry d.vtable).1.device_block d.value) ((g.dyn-1.0.entry d.vtable).1.device_size d.value) ((g.dyn-1.0.entry d.vtable).1.device_faults d.value)) items) items c.args.folder c.args.source.now in
-    let mid = facts g.F.Folder g.S.Source (map (λ d. shown ((g.dyn-1.0.entry d.vtable).1.device_content d.value) ((g.dyn-1.0.entry d.vtable).1.device_block d.value) ((g.dyn-1.0.entry d.vtable).1.device_size d.value) ((g.dyn-1.0.entry d.vtable).1.device_faults d.value)) items) items c.read_request.new.folder c.read_request.new.source in
-    let new = facts g.F.Folder g.S.Source (map (λ d. shown ((g.dyn-1.0.entry d.vtable).1.device_content d.value) ((g.dyn-1.0.entry d.vtable).1.device_block d.value) ((g.dyn-1.0.entry d.vtable).1.device_size d.value) ((g.dyn-1.0.entry d.vtable).1.device_faults d.value)) ended.devices.items) ended.devices.items ended.folder c.read_request.new.source in
+    let old = facts g.F.Folder g.S.Source (map (λ d. shown ((g.dyn-1.0.entry d.vtable).1.device_content d.value) ((g.dyn-1.0.entry d.vtable).1.device_block d.value) ((g.dyn-1.0.entry d.vtable).1.device_size d.value) ((g.dyn-1.0.entry d.vtable).1.device_faults d.value)) items) items c.args.folder c.args.source.now [] in
+    let mid = facts g.F.Folder g.S.Source (map (λ d. shown ((g.dyn-1.0.entry d.vtable).1.device_content d.value) ((g.dyn-1.0.entry d.vtable).1.device_block d.value) ((g.dyn-1.0.entry d.vtable).1.device_size d.value) ((g.dyn-1.0.entry d.vtable).1.device_faults d.value)) items) items c.read_request.new.folder c.read_request.new.source [] in
+    let new = facts g.F.Folder g.S.Source (map (λ d. shown ((g.dyn-1.0.entry d.vtable).1.device_content d.value) ((g.dyn-1.0.entry d.vtable).1.device_block d.value) ((g.dyn-1.0.entry d.vtable).1.device_size d.value) ((g.dyn-1.0.entry d.vtable).1.device_faults d.value)) ended.devices.items) ended.devices.items ended.folder c.read_request.new.source (map (λ p. g.F.Peek.Peek.peek_faults p) ended.peeks.items) in
     let count : vec_len c.args.devices ≡ length (map (λ d. shown ((g.dyn-1.0.entry d.vtable).1.device_content d.value) ((g.dyn-1.0.entry d.vtable).1.device_block d.value) ((g.dyn-1.0.entry d.vtable).1.device_size d.value) ((g.dyn-1.0.entry d.vtable).1.device_faults d.value)) items) = omega (arith, c.deref.ensures.len, ap length c.deref.ensures.value, length-map items (λ d. shown ((g.dyn-1.0.entry d.vtable).1.device_content d.value) ((g.dyn-1.0.entry d.vtable).1.device_block d.value) ((g.dyn-1.0.entry d.vtable).1.device_size d.value) ((g.dyn-1.0.entry d.vtable).1.device_faults d.value))) in
     let later : mid.source_faults ≤ new.source_faults = omega arith in
-    result_of (request (map (λ w. w.now) c.args.words.now) g.C.Case.content g.F.Folder.tells) old mid new c.in-Ok.asked.uuid c.in-Ok.asked.plan (vec_len c.args.devices) ready count refl later
-    c.acquire.ensures.cause.later ended.outcome c.acquire.ensures.cause.rose c.acquire.ensures.says
+    result_of (request (map (λ w. w.now) c.args.words.now) g.C.Case.content g.F.Folder.tells) old mid new c.in-Ok.asked.uuid c.in-Ok.asked.plan c.in-Ok.asked.script (vec_len c.args.devices) ready count refl later
+    c.acquire.ensures.later (λ p. g.F.Peek.Peek.peek_faults p) ended.peeks.items refl ended.outcome c.acquire.ensures.says
 
 pub returns-in-Err-clause-answer : goal.returns-in-Err-clause-answer
 returns-in-Err-clause-answer g c =
-    subst
-    (λ v.
+    subst₂
+    (λ v n.
     IsFaultOf c.in-Err.fault (request (map (λ w. w.now) c.args.words.now) g.C.Case.content g.F.Folder.tells)
-    (facts g.F.Folder g.S.Source (map (λ d. shown ((g.dyn-1.0.entry d.vtable).1.device_content d.value) ((g.dyn-1.0.entry d.vtable).1.device_block d.value) ((g.dyn-1.0.entry d.vtable).1.device_size d.value) ((g.dyn-1.0.entry d.vtable).1.device_faults d.value)) v) v c.args.folder c.args.source.now)
-    (facts g.F.Folder g.S.Source (map (λ d. shown ((g.dyn-1.0.entry d.vtable).1.device_content d.value) ((g.dyn-1.0.entry d.vtable).1.device_block d.value) ((g.dyn-1.0.entry d.vtable).1.device_size d.value) ((g.dyn-1.0.entry d.vtable).1.device_faults d.value)) v) v c.read_request.new.folder c.read_request.new.source))
-    c.deref.ensures.value (c.in-Err.ensures.refused g.C.Case.content)
+    (facts g.F.Folder g.S.Source (map (λ d. shown ((g.dyn-1.0.entry d.vtable).1.device_content d.value) ((g.dyn-1.0.entry d.vtable).1.device_block d.value) ((g.dyn-1.0.entry d.vtable).1.device_size d.value) ((g.dyn-1.0.entry d.vtable).1.device_faults d.value)) v) v c.args.folder c.args.source.now [])
+    (facts g.F.Folder g.S.Source (map (λ d. shown ((g.dyn-1.0.entry d.vtable).1.device_content d.value) ((g.dyn-1.0.entry d.vtable).1.device_block d.value) ((g.dyn-1.0.entry d.vtable).1.device_size d.value) ((g.dyn-1.0.entry d.vtable).1.device_faults d.value)) v) v c.read_request.new.folder c.read_request.new.source n))
+    c.deref.ensures.value (ap (λ v. map (λ p. g.F.Peek.Peek.peek_faults p) v) (sym c.new.ensures.items)) (c.in-Err.ensures.refused g.C.Case.content)

@@ -1,0 +1,14 @@
+//! Worked cases of sessions over the whole program: what they are answered while the image grows and behind `after`. Each case
+//! has ample memory, and gates make threads meet in a limit of turns.
+#![tactic(auto)]
+
+#[cfg(test)]
+mod answers;
+#[cfg(test)]
+mod fixture;
+#[cfg(test)]
+mod gates;
+#[cfg(test)]
+mod growth;
+#[cfg(test)]
+mod scripts;

@@ -1,0 +1,10 @@
+use Rattle.std.proofs.Common.{◌≡◌, ◌+◌, length, ◌∙◌, arith}
+use Rattle.std.proofs.lemmas.List.{length_push}
+use Rattle.aff_run.proofs.making.give_back.Goals as goal
+
+pub loop-session-preserved : goal.loop-session-preserved
+loop-session-preserved g c =
+    let i = c.loop-session.invariant in
+    let longer = length_push c.loop-session.yielded c.in-Some.session in
+    let p = c.push_reserved.ensures in
+    (omega (arith, longer, p.len, i.0), p.capacity ∙ i.1, omega (arith, longer, c.in-Some.ensures.steps.1, i.2))

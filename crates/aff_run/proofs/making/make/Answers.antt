@@ -1,0 +1,15 @@
+use Rattle.std.proofs.Common.{◌≡◌, ℕ, ◌<◌, ap, subst, ◌∙◌, length}
+use Rattle.std.specs.Prelude.{All}
+use Rattle.aff_claim.specs.declared.view.BookView.{BookView}
+use Rattle.aff_snapshot.specs.Lists.{Beginning}
+use Rattle.aff_run.specs.declared.crew.Kit.{Kit}
+use Rattle.aff_run.proofs.making.make.Goals as goal
+
+pub returns-in-Ok-clause-claims : goal.returns-in-Ok-clause-claims
+returns-in-Ok-clause-claims g c = (c.in_ok-claims.ensures.plan.0, c.in_ok-claims.ensures.workers)
+
+pub returns-in-Ok-clause-kits : goal.returns-in-Ok-clause-kits
+returns-in-Ok-clause-kits g c = subst (λ (n : ℕ). All (λ (k : Kit). (k.pass.claims ≡ c.in_ok-claims.claims) × (k.pass.view.number < n)) c.in_ok-kits.kits.items) c.in_ok-orders.ensures c.in_ok-kits.ensures.kits
+
+pub returns-in-Ok-clause-sessions : goal.returns-in-Ok-clause-sessions
+returns-in-Ok-clause-sessions g c = c.in-Ok.ensures.sessions c.in_ok-publisher.publisher.list (λ k d below. ap (λ (v : Beginning g.row.F-Receipt.Denot). v.list) (c.in_ok-publisher.ensures.viewers k d below))

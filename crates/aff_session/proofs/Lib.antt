@@ -1,0 +1,7 @@
+pub mod Growing
+pub mod Histories
+mod Lining
+mod Looks
+mod Requests
+mod Rows
+mod Samples

@@ -1,0 +1,7 @@
+pub mod Answers
+pub mod Faults
+pub mod Laws
+pub mod Lines
+pub mod Looking
+pub mod Shown
+pub mod Sittings
