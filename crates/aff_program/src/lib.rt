@@ -4,6 +4,7 @@
 #![tactic(auto)]
 
 mod machine;
+mod usage;
 mod words;
 
 pub use machine::{run, run_for};

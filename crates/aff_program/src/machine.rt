@@ -1,5 +1,6 @@
 //! One run of the program over the machine.
-use crate::words::{USAGE, own_words};
+use crate::usage::usage;
+use crate::words::own_words;
 use aff_model::Untold;
 use aff_outside::{Device, FileDevice, FileFolder, InputSource, OpenGate, OutputSink};
 use aff_top::{Outside, outside, run_words};
@@ -63,7 +64,7 @@ fn run_words_for<W: Alloc<A = Global> + Threads + Wait + Sync>(
         }
         Some(_) => {}
         None => {
-            let _ = rt.eprintln(USAGE);
+            let _ = rt.eprint(usage(alloc)?.as_str());
         }
     }
     let path = words.get(1).copied().unwrap_or("");
