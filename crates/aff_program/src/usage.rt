@@ -52,7 +52,9 @@ The manual page imager(1) has plans, sessions, what each exit status means, and 
 /// The text of the program's usage: its commands, what each does, and an example of each.
 pub fn usage(alloc: Global) -> Result<String, AllocError> {
     let mut program = Command::new(alloc, "imager")
-        .about("Copies a storage device into an AFF4 evidence volume, and reads and verifies such volumes")
+        .about(
+            "Copies a storage device into an AFF4 evidence volume, and reads and verifies such volumes",
+        )
         .after_help(WORDS)
         .subcommand_required(true)
         .disable_help_subcommand(true);
