@@ -5,6 +5,7 @@ mod Keeping
 mod Marks
 mod Parts
 mod Puts
+mod Raising
 mod Samples
 mod Shown
 mod Steps

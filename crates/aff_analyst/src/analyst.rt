@@ -6,6 +6,7 @@ ghost use Rattle.aff_model.specs.Plan.{IsPlan};
 ghost use Rattle.aff_snapshot.specs.Lists.{AreListed, Beginning, HasEvery};
 ghost use Rattle.aff_analyst.specs.Values.{Analysis};
 
+use crate::by_place::index_of;
 use aff_fields::zeros;
 use aff_model::{CHUNK, Case, Extent, Memory, Plan};
 use aff_outside::Folder;
@@ -19,13 +20,17 @@ pub struct Analyst<C: Case, F: Folder> {
     pub(crate) plan: Plan,
     pub(crate) viewer: Option<Viewer<C, F::Receipt>>,
     pub(crate) peek: F::Peek,
+    /// The numbers of the plan's extents, by their first bytes.
+    pub(crate) index: Vec<u32>,
     /// Room for a chunk.
     pub(crate) buffer: Vec<u8>,
+    pub(crate) alloc: Global,
 }
 
 impl<C: Case, F: Folder> Model for Analyst<C, F> {
     ghost use Rattle.std.specs.Prelude.{◌≡◌, ◌<◌, ◌^◌, IfSome, length};
     ghost use Rattle.aff_model.specs.declared.limits.TheConstants as limits;
+    ghost use Rattle.aff_model.specs.Index.{IsIndex};
     ghost use Rattle.aff_model.specs.Plan.{IsPlan};
     ghost use Rattle.aff_analyst.specs.Values.{Analysis};
 
@@ -34,7 +39,7 @@ impl<C: Case, F: Folder> Model for Analyst<C, F> {
     ghost view = { λ a. record { plan = a.plan; viewer = a.viewer; peek = a.peek } };
 
     // the viewer's list is of the plan, a chunk has its room, and the plan is one
-    ghost invariant = { λ a. IfSome a.viewer (λ v. v.list.plan ≡ a.plan) × (length a.buffer.items ≡ limits.CHUNK) × IsPlan a.plan.size a.plan.block a.plan.extents × (a.plan.size < 2 ^ 64) };
+    ghost invariant = { λ a. IfSome a.viewer (λ v. v.list.plan ≡ a.plan) × (length a.buffer.items ≡ limits.CHUNK) × IsPlan a.plan.size a.plan.block a.plan.extents × (a.plan.size < 2 ^ 64) × IsIndex a.plan.extents a.index.items };
 }
 
 impl<C: Case, F: Folder> Analyst<C, F> {
@@ -51,6 +56,9 @@ impl<C: Case, F: Folder> Analyst<C, F> {
         let Ok(plan) = copy_of(alloc, plan) else {
             return Err(Memory);
         };
+        let Ok(index) = index_of(alloc, plan.extents()) else {
+            return Err(Memory);
+        };
         let Ok(buffer) = zeros(alloc, CHUNK as usize) else {
             return Err(Memory);
         };
@@ -58,7 +66,9 @@ impl<C: Case, F: Folder> Analyst<C, F> {
             plan,
             viewer,
             peek,
+            index,
             buffer,
+            alloc,
         })
     }
 

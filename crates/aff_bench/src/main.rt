@@ -1,8 +1,9 @@
 //! What the digests of a run cost alone: reads standard input once, takes the digests that a run takes of
-//! such a device (of each chunk that is not all zeros, and of the whole), and writes those of the whole.
-//! Nothing is stored. `bench` compares a run with it. With the word `lanes` or `scalar` it takes the chunks' digests
-//! alone, in lanes or in the scalar code of `md5`, `sha1` and `sha2`, so that `bench` compares the two. With the word
-//! `claims` it reads nothing: one pass claims each extent of the longest plan.
+//! such a device (of each chunk that is not all zeros, in lanes, and of the whole, side by side), and writes those of the
+//! whole. Nothing is stored. `bench` compares a run with it. With the word `verify` it takes those that a verification takes:
+//! the same, but of chunks one digest at a time. With `lanes` or `scalar` it takes the chunks' digests alone, in lanes or in
+//! the scalar code of `md5`, `sha1` and `sha2`, so that `bench` compares the two. With the word `claims` it reads nothing:
+//! one pass claims each extent of the longest plan.
 #![tactic(auto)]
 
 ghost use Rattle.std.specs.Prelude.{◌≡◌, ◌<◌, All, IfOk, length};
@@ -22,6 +23,7 @@ use sha2::{Digest as Sha2Hasher, Sha256};
 use std::alloc::{AllocError, Global};
 use std::env;
 use std::process::ExitCode;
+use std::thread::Threads;
 
 /// The most readings: a device of 2^44 bytes takes so many of the longest extent.
 const READINGS: u64 = 1_048_576;
@@ -33,6 +35,8 @@ const CHUNK_BYTES: usize = CHUNK as usize;
 enum Mode {
     /// Those that a run takes.
     Run,
+    /// Those that a verification takes.
+    Verify,
     /// Those of chunks, in lanes.
     Lanes,
     /// Those of chunks, in scalar code.
@@ -52,6 +56,7 @@ fn task_of(word: &str) -> Task {
         "claims" => Task::Claims,
         "lanes" => Task::Digests(Mode::Lanes),
         "scalar" => Task::Digests(Mode::Scalar),
+        "verify" => Task::Digests(Mode::Verify),
         _ => Task::Digests(Mode::Run),
     }
 }
@@ -101,14 +106,24 @@ fn mix_in_scalar_code(bytes: &[u8], chosen: &[usize]) -> u8
 }
 
 /// Takes the digests of some bytes, and gives the mixed bytes of their chunks' digests.
-fn sum_bytes(alloc: Global, mode: Mode, bytes: &[u8], linear: &mut Linear) -> Result<u8, Memory> {
+fn sum_bytes<R: Threads + Sync>(
+    rt: &R,
+    alloc: Global,
+    mode: Mode,
+    bytes: &[u8],
+    linear: &mut Linear,
+) -> Result<u8, Memory> {
     let Ok(chosen) = stored(alloc, bytes) else {
         return Err(Memory);
     };
     match mode {
         Mode::Run => {
-            linear.update(bytes);
+            linear.update_beside(rt, bytes);
             mix_in_lanes(alloc, bytes, &chosen)
+        }
+        Mode::Verify => {
+            linear.update_beside(rt, bytes);
+            Ok(mix_in_scalar_code(bytes, &chosen))
         }
         Mode::Lanes => mix_in_lanes(alloc, bytes, &chosen),
         Mode::Scalar => Ok(mix_in_scalar_code(bytes, &chosen)),
@@ -116,7 +131,8 @@ fn sum_bytes(alloc: Global, mode: Mode, bytes: &[u8], linear: &mut Linear) -> Re
 }
 
 /// Takes the digests of what a source has left, and gives the mixed bytes of its chunks' digests.
-fn sum_all<S: Source>(
+fn sum_all<R: Threads + Sync, S: Source>(
+    rt: &R,
     alloc: Global,
     mode: Mode,
     source: &mut S,
@@ -129,23 +145,23 @@ fn sum_all<S: Source>(
     for _ in 0..READINGS {
         match source.read(buffer) {
             Ok(0) => return Ok(mix),
-            Ok(count) => mix ^= sum_bytes(alloc, mode, &buffer[..count], linear)?,
+            Ok(count) => mix ^= sum_bytes(rt, alloc, mode, &buffer[..count], linear)?,
             Err(_) => return Ok(mix),
         }
     }
     Ok(mix)
 }
 
-fn run(rt: HostRuntime, mode: Mode) -> Result<(), Memory> {
+fn run<R: Threads + Sync>(rt: HostRuntime, threads: &R, mode: Mode) -> Result<(), Memory> {
     let alloc = rt.alloc();
     let Ok(mut buffer) = zeros(alloc, MAX_EXTENT as usize) else {
         return Err(Memory);
     };
     let mut linear = Linear::new();
     let mut source = InputSource::new(rt);
-    let mix = sum_all(alloc, mode, &mut source, &mut buffer, &mut linear)?;
+    let mix = sum_all(threads, alloc, mode, &mut source, &mut buffer, &mut linear)?;
     let mut sink = OutputSink::new(rt);
-    if mode == Mode::Run {
+    if mode == Mode::Run || mode == Mode::Verify {
         let lines = digest_lines(alloc, &linear.finish())?;
         let _ = sink.write(lines.as_bytes());
     }
@@ -174,7 +190,7 @@ fn main(rt: HostRuntime) -> ExitCode {
         task = task_of(word.as_str());
     }
     let outcome = match task {
-        Task::Digests(mode) => run(rt, mode),
+        Task::Digests(mode) => run(rt, &rt, mode),
         Task::Claims => run_claims(rt),
     };
     match outcome {

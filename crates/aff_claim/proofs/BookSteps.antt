@@ -10,7 +10,7 @@ use Rattle.aff_claim.specs.declared.view.Limits.{Limits}
 use Rattle.aff_claim.specs.declared.view.View.{View}
 use Rattle.aff_claim.specs.declared.word.Word.{Word}
 use Rattle.aff_claim.specs.declared.word.Word.TheVariants.{Free, Claimed, Published}
-use Rattle.aff_claim.specs.Rule.{IsClaimTable, IsSeat, IsBook, IsSpare, HasBooked}
+use Rattle.aff_claim.specs.Rule.{AreClaims, IsSeat, IsBook, IsSpare, HasBooked}
 use Rattle.aff_claim.specs.Steps.{drew, book_looked, TellsBook, registers, book_loads}
 use Rattle.aff_claim.specs.Views.{given, newcomer, new_pass, last_drawn}
 use Rattle.aff_claim.specs.Words.{Names, word_at, drawn_count}
@@ -42,7 +42,7 @@ holds_more extents word b e (Claimed m) inside is ok = record {
 
 module _ {S : Type 0} (limits : Limits) (slots id : ℕ) (me : Me S View) (is_book : me.0.is_book ≡ true) where
   abbrev Rule : State S View → Type 0
-  Rule = IsClaimTable limits
+  Rule = AreClaims limits
 
   abbrev v : View
   v = me.0

@@ -1,10 +1,10 @@
 -- Passes later on.
-use Rattle.std.proofs.Common.{◌≡◌, ℕ, ◌<◌, List, [], ◌∷◌, ◌++◌, length, refl, sym, ap, subst, ◌∙◌, append_assoc, append-nil}
+use Rattle.std.proofs.Common.{◌≡◌, ℕ, ◌<◌, List, [], ◌∷◌, ◌++◌, length, refl, sym, ap, subst, ◌∙◌, append_assoc, append-nil, Contains}
 use Rattle.std.proofs.lemmas.List.Elements.{Contains-append_left}
 use Rattle.aff_claim.specs.declared.view.PassView.{PassView}
 use Rattle.aff_claim.specs.declared.word.Word.{Word}
 use Rattle.aff_claim.specs.declared.word.Word.TheVariants.{Free, Claimed, Published}
-use Rattle.aff_claim.specs.Next.{IsLater, HasClaimed, AreUrgentIn}
+use Rattle.aff_claim.specs.Next.{IsLater, HasClaimed, HasServed, IsDue}
 use Rattle.aff_claim.specs.Steps.{tried}
 
 pub later_same : (p : PassView) → IsLater p p
@@ -30,14 +30,21 @@ claimed_since priorities e old q r same ok = record {
   planned = ok.planned;
   mine = ok.mine ∙ ap (λ l. l ++ e ∷ []) same;
   exchange = ok.exchange;
-  urgent = ok.urgent;
+  due = ok.due;
 }
 
 -- a claim by an exchange that found the word free
-pub claimed_now : (priorities : List ℕ) (e : ℕ) (old new : PassView) → e < length priorities → AreUrgentIn priorities e old.known → new ≡ tried old e Free → HasClaimed priorities e old new
-claimed_now priorities e old new inside urgent is = subst (HasClaimed priorities e old) (sym is) record {
+pub claimed_now : (priorities : List ℕ) (e : ℕ) (old new : PassView) → e < length priorities → IsDue priorities e (record { looked = old.looked; known = old.known }) → new ≡ tried old e Free → HasClaimed priorities e old new
+claimed_now priorities e old new inside due is = subst (HasClaimed priorities e old) (sym is) record {
   planned = inside;
   mine = refl;
   exchange = (old.found, refl);
-  urgent = urgent;
+  due = due;
+}
+
+-- demands that were served are so later, for as long as no more are looked at
+pub served_later : (extents : ℕ) (old new : PassView) → new.looked ≡ old.looked → ((e : ℕ) → Contains old.known e → Contains new.known e) → HasServed extents old.looked old.known → HasServed extents new.looked new.known
+served_later extents old new same known ok = subst (λ l. HasServed extents l new.known) (sym same) record {
+  all = ok.all;
+  served = λ e l asked. known e (ok.served e l asked);
 }

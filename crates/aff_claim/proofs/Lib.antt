@@ -4,8 +4,11 @@ pub mod Kept
 pub mod PassSteps
 pub mod BookSteps
 pub mod PublishSteps
+pub mod DemandSteps
+pub mod Allowed
 pub mod Opening
 pub mod Remembering
 pub mod Seated
 pub mod Urgency
 pub mod Later
+pub mod Serving

@@ -4,14 +4,17 @@ use mathlib.Core.Option.{some, some-injective, some-ne-none}
 use lib.ListN.{get_elem?}
 use Rattle.std.proofs.lemmas.List.{length-replicate}
 use Rattle.std.proofs.lemmas.List.Elements.{All-from_get_or}
+use Rattle.std.proofs.lemmas.Nat.Bits.{bit_at-zero}
+use Rattle.std.specs.Int.{bit_at}
 use Rattle.atomic_table.specs.Table.{opening, Seen, Final}
 use Rattle.aff_claim.specs.declared.view.Limits.{Limits}
 use Rattle.aff_claim.specs.declared.view.View.{View}
 use Rattle.aff_claim.specs.declared.word.Word.{Word}
 use Rattle.aff_claim.specs.declared.word.Word.TheVariants.{Free}
-use Rattle.aff_claim.specs.Rule.{IsClaimTable, IsSeat, MayStand, AreLastWords}
+use Rattle.aff_claim.specs.Demands.{HasAsked}
+use Rattle.aff_claim.specs.Rule.{AreClaims, IsClaimTable, IsSeat, MayStand, AreLastWords}
 use Rattle.aff_claim.specs.Views.{first_view}
-use Rattle.aff_claim.specs.Words.{Names, IsPublished, word_at, word_of, word_count, claim_place, drawn_count}
+use Rattle.aff_claim.specs.Words.{Names, IsPublished, word_at, word_of, word_count, claim_place, demand_place, demands_at, drawn_count}
 use Rattle.aff_claim.proofs.Kept.{booked_kept, names_same, published_same}
 use Rattle.aff_claim.proofs.ListLaws.{free_words, none_in, once_none, zeros, read_at}
 
@@ -23,8 +26,8 @@ one_view v d (suc j) e = absurd (some-ne-none d (sym e))
 all_free : (m e : ℕ) → word_at (free_words m) e ≡ Free
 all_free m e = ap word_of (zeros m (e + 1))
 
-pub opens : {S : Type 0} (limits : Limits) (m : ℕ) → m ≡ word_count limits.extents → IsClaimTable {S = S} limits (opening (free_words m) [] (first_view limits))
-opens limits m wide = record {
+claims_open : {S : Type 0} (limits : Limits) (m : ℕ) → m ≡ word_count limits.extents → AreClaims {S = S} limits (opening (free_words m) [] (first_view limits))
+claims_open limits m wide = record {
   desk = 0;
   owner = λ k. 0;
   width = length-replicate m 0 ∙ wide;
@@ -52,13 +55,27 @@ opens limits m wide = record {
       a_pass = λ h. absurd (true≢false h);
     }
 
+-- no extent of a new table is asked for
+pub opens : {S : Type 0} (limits : Limits) (m : ℕ) → m ≡ word_count limits.extents → IsClaimTable {S = S} limits (opening (free_words m) [] (first_view limits))
+opens limits m wide = record {
+  claims = claims_open limits m wide;
+  demands = record {
+    planned = λ d l i h. let none = subst (λ x. bit_at x i ≡ 0) (sym (zeros m (demand_place limits.extents d))) (bit_at-zero i) in absurd (omega arith);
+    seats = λ j v at. let one = one_view (first_view limits) v j at in
+        subst (λ (u : View). HasAsked limits.extents (demands_at limits.extents (free_words m)) u.pass) one.1 record {
+          raised = λ e c. absurd (none_in e c);
+          looked = λ d b c. absurd (none_in (d, b) c);
+        };
+  };
+}
+
 -- the numbers that the words of a closed table name
 pub last_number : {S : Type 0} (limits : Limits) (words : List ℕ) (slots : List S) (id : ℕ) (v : View) → Final (Seen (IsClaimTable limits) id v) words slots
     → (e k : ℕ) → e < limits.extents → Names (word_at words e) k → k ≤ limits.workers
 last_number limits words slots id v last e k l named =
     let s = last.0 in
     let r = last.1.0 in
-    (r.words e l k (subst (λ ws. Names (word_at ws e) k) (sym last.2) named)).0
+    (r.claims.words e l k (subst (λ ws. Names (word_at ws e) k) (sym last.2) named)).0
 
 -- the words of a table that is closed with its book's seat
 pub closes : {S : Type 0} (limits : Limits) (words : List ℕ) (slots : List S) (id : ℕ) (v : View) (ended : List Word) → v.is_book ≡ true → Final (Seen (IsClaimTable limits) id v) words slots
@@ -66,11 +83,11 @@ pub closes : {S : Type 0} (limits : Limits) (words : List ℕ) (slots : List S) 
 closes limits words slots id v ended is_book last count each =
     let s = last.0 in
     let r = last.1.0 in
-    let own = ((r.seats id v last.1.1).a_book is_book).1 in
+    let own = ((r.claims.seats id v last.1.1).a_book is_book).1 in
     let same : (e : ℕ) → e < limits.extents → slice_index_or ended e Free ≡ word_at s.words e = (λ e l. each e l ∙ ap (λ ws. word_at ws e) (sym last.2)) in record {
       count = count;
       each = All-from_get_or (MayStand limits.workers v.book.made) ended Free (λ e l. let inside : e < limits.extents = omega arith in
-          subst (MayStand limits.workers v.book.made) (sym (same e inside)) (subst (λ c. MayStand limits.workers c (word_at s.words e)) own.made (r.words e inside)));
+          subst (MayStand limits.workers v.book.made) (sym (same e inside)) (subst (λ c. MayStand limits.workers c (word_at s.words e)) own.made (r.claims.words e inside)));
       booked = booked_kept limits (word_at s.words) (λ e. slice_index_or ended e Free) v.book
           (λ f l. published_same (word_at s.words f) (slice_index_or ended f Free) (same f l)) (λ f m l. (names_same (word_at s.words f) (slice_index_or ended f Free) (same f l) m).0) own.booked;
     }

@@ -13,7 +13,7 @@ use Rattle.aff_claim.specs.declared.view.PassView.{PassView}
 use Rattle.aff_claim.specs.declared.view.View.{View}
 use Rattle.aff_claim.specs.declared.word.Word.{Word}
 use Rattle.aff_claim.specs.declared.word.Word.TheVariants.{Free, Claimed, Published}
-use Rattle.aff_claim.specs.Rule.{IsClaimTable, IsSeat, IsPass, MayStand}
+use Rattle.aff_claim.specs.Rule.{AreClaims, IsSeat, IsPass, MayStand}
 use Rattle.aff_claim.specs.Steps.{looked, tried, TellsPass, turns, claims, loads}
 use Rattle.aff_claim.specs.Words.{Names, IsPublished, number_of, word_at, drawn_count}
 use Rattle.aff_claim.proofs.Kept.{pass_kept, booked_kept, spare_kept, names_same, published_same, taken_same, after, here, drawn_same, each, words_same}
@@ -49,7 +49,7 @@ told_at e P h f is = let same : e ≡ f = omega arith in subst P same h
 
 module _ {S : Type 0} (limits : Limits) (slots id : ℕ) (me : Me S View) (is_pass : me.0.is_book ≡ false) where
   abbrev Rule : State S View → Type 0
-  Rule = IsClaimTable limits
+  Rule = AreClaims limits
 
   abbrev v : View
   v = me.0
@@ -205,42 +205,47 @@ module _ {S : Type 0} (limits : Limits) (slots id : ℕ) (me : Me S View) (is_pa
         told_at e (λ f. (((record v { pass = tried v.pass e w }, me.1) ≡ (record v { pass = tried v.pass f w }, me.1)) × TellsPass v f w)) (refl, tells s r e inside at),
       )
 
-  -- the cursor: any number may stand there
-  pub turn_allows : Allows Rule slots id me (limits.extents + 1) (λ x. (x + 1) % 2 ^ 64) (turns (step slots (limits.extents + 1) 1 0 none) me)
-  turn_allows s r homes at small =
-      (v, keeps, tt, moved s r ((get_or s.words (limits.extents + 1) 0 + 1) % 2 ^ 64) at, refl)
+  -- a step on a word that is no claim word: any number may stand there, and the pass may remember more beside its claims
+  pub aside : (s : State S View) (r : Rule s) (i n : ℕ) (q : PassView) → limits.extents < i → get_elem? s.views id ≡ some v → q.number ≡ v.pass.number
+      → (IsPass limits (drawn_count (set s.words i n)) (word_at (set s.words i n)) v.pass → IsPass limits (drawn_count (set s.words i n)) (word_at (set s.words i n)) q)
+      → Rule (stepped s i n id me.1 (record v { pass = q }) keeps)
+  aside s r i n q behind at number more =
+      let words = s.words in
+      let same = words_same limits.extents words i n (λ e l h. omega arith) in
+      let count : drawn_count (set words i n) ≡ drawn_count words = get_or-set_other words i 0 n 0 (λ h. omega arith) in
+      let seat : (j : ℕ) (d : View) → IsSeat limits (drawn_count words) (word_at words) r.owner r.desk j d → IsSeat limits (drawn_count (set words i n)) (word_at (set words i n)) r.owner r.desk j d = seat_same words (set words i n) r.owner r.desk same count in
+      let was = seat id v (r.seats id v at) in
+      let mine = was.a_pass is_pass in record {
+        desk = r.desk;
+        owner = r.owner;
+        width = length-set words i n ∙ r.width;
+        words = λ f l. subst (λ c. MayStand limits.workers c (word_at (set words i n) f)) (sym count) (subst (MayStand limits.workers (drawn_count words)) (sym (same f l)) (r.words f l));
+        seats = seats_stay (IsSeat limits (drawn_count (set words i n)) (word_at (set words i n)) r.owner r.desk) s.views id (record v { pass = q })
+            (record { extents = was.extents; workers = was.workers; a_book = λ h. absurd (true≢false (sym h ∙ is_pass)); a_pass = λ _. (ap r.owner number ∙ mine.0, more mine.1) })
+            (λ j d _ there. seat j d (r.seats j d there));
+      }
     where
-      moved : (s : State S View) (r : Rule s) (n : ℕ) → get_elem? s.views id ≡ some v → Rule (stepped s (limits.extents + 1) n id me.1 v keeps)
-      moved s r n at =
-          let i = limits.extents + 1 in
-          let words = s.words in
-          let same = words_same limits.extents words i n (λ e l h. omega arith) in
-          let count : drawn_count (set words i n) ≡ drawn_count words = get_or-set_other words i 0 n 0 (λ h. omega arith) in
-          let seat : (j : ℕ) (d : View) → IsSeat limits (drawn_count words) (word_at words) r.owner r.desk j d → IsSeat limits (drawn_count (set words i n)) (word_at (set words i n)) r.owner r.desk j d = seat_same words (set words i n) r.owner r.desk same count in record {
-            desk = r.desk;
-            owner = r.owner;
-            width = length-set words i n ∙ r.width;
-            words = λ f l. subst (λ c. MayStand limits.workers c (word_at (set words i n) f)) (sym count) (subst (MayStand limits.workers (drawn_count words)) (sym (same f l)) (r.words f l));
-            seats = seats_stay (IsSeat limits (drawn_count (set words i n)) (word_at (set words i n)) r.owner r.desk) s.views id v (seat id v (r.seats id v at)) (λ j d _ there. seat j d (r.seats j d there));
+      seat_same : (words now : List ℕ) (owner : ℕ → ℕ) (desk : ℕ) → ((e : ℕ) → e < limits.extents → word_at now e ≡ word_at words e) → drawn_count now ≡ drawn_count words → (j : ℕ) (d : View)
+          → IsSeat limits (drawn_count words) (word_at words) owner desk j d → IsSeat limits (drawn_count now) (word_at now) owner desk j d
+      seat_same words now owner desk same count j d know =
+          let grows : drawn_count words ≤ drawn_count now = omega arith in record {
+            extents = know.extents;
+            workers = know.workers;
+            a_book = λ h. let was = know.a_book h in (
+              was.0,
+              record {
+                made = count ∙ was.1.made;
+                spare = λ m drawn. spare_kept limits (word_at words) (word_at now) (drawn_count words) (drawn_count now) owner j m grows (λ _ f l. (names_same (word_at words f) (word_at now f) (same f l) m).1) (was.1.spare m drawn);
+                booked = booked_kept limits (word_at words) (word_at now) d.book (λ f l. published_same (word_at words f) (word_at now f) (same f l)) (λ f m l. (names_same (word_at words f) (word_at now f) (same f l) m).0) was.1.booked;
+              },
+            );
+            a_pass = λ h. let was = know.a_pass h in (
+              was.0,
+              pass_kept limits (word_at words) (word_at now) (drawn_count words) (drawn_count now) d.pass grows
+                  (λ _ f l. names_same (word_at words f) (word_at now f) (same f l) d.pass.number) (λ f l. taken_same (word_at words f) (word_at now f) (same f l)) was.1,
+            );
           }
-        where
-          seat_same : (words now : List ℕ) (owner : ℕ → ℕ) (desk : ℕ) → ((e : ℕ) → e < limits.extents → word_at now e ≡ word_at words e) → drawn_count now ≡ drawn_count words → (j : ℕ) (d : View)
-              → IsSeat limits (drawn_count words) (word_at words) owner desk j d → IsSeat limits (drawn_count now) (word_at now) owner desk j d
-          seat_same words now owner desk same count j d know =
-              let grows : drawn_count words ≤ drawn_count now = omega arith in record {
-                extents = know.extents;
-                workers = know.workers;
-                a_book = λ h. let was = know.a_book h in (
-                  was.0,
-                  record {
-                    made = count ∙ was.1.made;
-                    spare = λ m drawn. spare_kept limits (word_at words) (word_at now) (drawn_count words) (drawn_count now) owner j m grows (λ _ f l. (names_same (word_at words f) (word_at now f) (same f l) m).1) (was.1.spare m drawn);
-                    booked = booked_kept limits (word_at words) (word_at now) d.book (λ f l. published_same (word_at words f) (word_at now f) (same f l)) (λ f m l. (names_same (word_at words f) (word_at now f) (same f l) m).0) was.1.booked;
-                  },
-                );
-                a_pass = λ h. let was = know.a_pass h in (
-                  was.0,
-                  pass_kept limits (word_at words) (word_at now) (drawn_count words) (drawn_count now) d.pass grows
-                      (λ _ f l. names_same (word_at words f) (word_at now f) (same f l) d.pass.number) (λ f l. taken_same (word_at words f) (word_at now f) (same f l)) was.1,
-                );
-              }
+
+  -- the cursor
+  pub turn_allows : (i : ℕ) → limits.extents < i → Allows Rule slots id me i (λ x. (x + 1) % 2 ^ 64) (turns (step slots i 1 0 none) me)
+  turn_allows i behind s r homes at small = (v, keeps, tt, aside s r i ((get_or s.words i 0 + 1) % 2 ^ 64) v.pass behind at refl (λ ok. ok), refl)

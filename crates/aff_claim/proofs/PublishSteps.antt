@@ -12,7 +12,7 @@ use Rattle.aff_claim.specs.declared.view.Limits.{Limits}
 use Rattle.aff_claim.specs.declared.view.View.{View}
 use Rattle.aff_claim.specs.declared.word.Word.{Word}
 use Rattle.aff_claim.specs.declared.word.Word.TheVariants.{Free, Claimed, Published}
-use Rattle.aff_claim.specs.Rule.{IsClaimTable, IsSeat, IsBook, IsPass, MayStand, IsOnce}
+use Rattle.aff_claim.specs.Rule.{AreClaims, IsSeat, IsBook, IsPass, MayStand, IsOnce}
 use Rattle.aff_claim.specs.Steps.{book_looked, published, published_if, swept, TellsBook, publishes, sweeps}
 use Rattle.aff_claim.specs.Words.{Names, IsPublished, number_of, word_at, drawn_count}
 use Rattle.aff_claim.proofs.BookSteps.{unmoved, tells, holds_more}
@@ -23,7 +23,7 @@ use Rattle.aff_claim.proofs.WordLaws.{word_is}
 
 module _ {S : Type 0} (limits : Limits) (slots id : ℕ) (me : Me S View) (is_book : me.0.is_book ≡ true) where
   abbrev Rule : State S View → Type 0
-  Rule = IsClaimTable limits
+  Rule = AreClaims limits
 
   abbrev v : View
   v = me.0

@@ -1,5 +1,6 @@
 pub mod Words
 pub mod Views
+pub mod Demands
 pub mod Steps
 pub mod Rule
 pub mod Ranking

@@ -9,6 +9,7 @@ use Rattle.aff_claim.specs.declared.view.PassView.{PassView}
 use Rattle.aff_claim.specs.declared.view.View.{View}
 use Rattle.aff_claim.specs.declared.word.Word.{Word}
 use Rattle.aff_claim.specs.declared.word.Word.TheVariants.{Free}
+use Rattle.aff_claim.specs.Demands.{AreDemands}
 use Rattle.aff_claim.specs.Words.{Names, IsPublished, drawn_count, word_at, word_count}
 
 -- a list has no element twice
@@ -54,15 +55,20 @@ pub record IsSeat (limits : Limits) (drawn : ℕ) (word : ℕ → Word) (owner :
   pub a_book : v.is_book ≡ true → (seat ≡ desk) × IsBook limits drawn word owner seat v.book
   pub a_pass : v.is_book ≡ false → (owner v.pass.number ≡ seat) × IsPass limits drawn word v.pass
 
--- the rule: there is one seat for the book, an owner for each number, so that no two passes share one, and each word and
--- each seat is as it says
-pub record IsClaimTable {S : Type 0} (limits : Limits) (s : State S View) : Type 0 where
+-- the rule of the claim words: there is one seat for the book, an owner for each number, so that no two passes share one, and
+-- each word and each seat is as it says
+pub record AreClaims {S : Type 0} (limits : Limits) (s : State S View) : Type 0 where
   pub desk : ℕ
   pub owner : ℕ → ℕ
   pub width : length s.words ≡ word_count limits.extents
   pub words : (e : ℕ) → e < limits.extents → MayStand limits.workers (drawn_count s.words) (word_at s.words e)
   pub seats : (seat : ℕ) (v : View) → get_elem? s.views seat ≡ some v
       → IsSeat limits (drawn_count s.words) (word_at s.words) owner desk seat v
+
+-- the rule
+pub record IsClaimTable {S : Type 0} (limits : Limits) (s : State S View) : Type 0 where
+  pub claims : AreClaims limits s
+  pub demands : AreDemands limits s
 
 -- the claim words of a table that is closed, by the last view of its book
 pub record AreLastWords (extents workers : ℕ) (b : BookView) (words : List Word) : Type 0 where

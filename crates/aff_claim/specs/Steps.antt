@@ -1,12 +1,13 @@
 -- The kinds of step: what each changes of the view of the seat that steps, and what it tells beside.
-use Rattle.std.specs.Prelude.{◌≡◌, ◌≢◌, ◌↔◌, ℕ, ◌+◌, ◌≤◌, List, [], ◌∷◌, ◌++◌, Contains, Some, Bool, true, false, ◌==◌}
+use Rattle.std.specs.Prelude.{◌≡◌, ◌≢◌, ◌↔◌, ℕ, ◌+◌, ◌/◌, ◌%◌, ◌^◌, ◌≤◌, List, [], ◌∷◌, ◌++◌, Contains, Some, Bool, true, false, ◌==◌}
 use Rattle.atomic_table.specs.Table.{Me, Step}
 use Rattle.aff_claim.specs.declared.view.BookView.{BookView}
 use Rattle.aff_claim.specs.declared.view.PassView.{PassView}
 use Rattle.aff_claim.specs.declared.view.View.{View}
 use Rattle.aff_claim.specs.declared.word.Word.{Word}
 use Rattle.aff_claim.specs.declared.word.Word.TheVariants.{Free, Claimed, Published}
-use Rattle.aff_claim.specs.Words.{Names, IsPublished, number_of, word_of, claim_place}
+use Rattle.aff_claim.specs.Demands.{ArePlanned, Has}
+use Rattle.aff_claim.specs.Words.{Names, IsPublished, number_of, word_of, claim_place, demand_place}
 
 -- the book draws a number
 abbrev pub drew : BookView → ℕ → BookView
@@ -33,6 +34,14 @@ tried p e Free = record p {
 }
 tried p e (Claimed k) = looked p e (Claimed k)
 tried p e (Published k) = looked p e (Published k)
+
+-- a pass asks for an extent
+abbrev pub raising : PassView → ℕ → PassView
+raising p e = record p { raised = p.raised ++ e ∷ [] }
+
+-- a pass loads a demand word
+abbrev pub demands_looked : PassView → ℕ → ℕ → PassView
+demands_looked p d bits = record p { looked = p.looked ++ (d, bits) ∷ [] }
 
 -- the book keeps what it finds claimed
 abbrev pub holding : List (ℕ × ℕ) → ℕ → Word → List (ℕ × ℕ)
@@ -78,6 +87,12 @@ pub record TellsBook (v : View) (e : ℕ) (w : Word) : Type 0 where
   pub out : Contains v.book.out e ↔ IsPublished w
   pub held : (k : ℕ) → Contains v.book.held (e, k) → Names w k
 
+-- what a pass is told of a demand word that it finds: it asks for extents of the plan, and has each bit that was found in
+-- it before
+pub record TellsDemands (v : View) (d bits : ℕ) : Type 0 where
+  pub planned : ArePlanned v.extents d bits
+  pub before : (old i : ℕ) → Contains v.pass.looked (d, old) → Has old i → Has bits i
+
 -- Each kind is a relation between the step, the seat before, the number found and the seat after.
 module _ {S : Type 0} where
   -- of a step on the claim word of the extent e
@@ -105,3 +120,10 @@ module _ {S : Type 0} where
 
   abbrev pub sweeps : Step S → Me S View → ℕ → Me S View → Type 0
   sweeps st m n m' = Of st (λ e. (m' ≡ (record m.0 { book = swept m.0.book e m.0.workers (word_of n) }, m.1)) × TellsBook m.0 e (word_of n))
+
+  -- a step on the demand word of an extent, with its bit
+  abbrev pub raises : Step S → Me S View → ℕ → Me S View → Type 0
+  raises st m n m' = (e : ℕ) → st.word ≡ demand_place m.0.extents (e / 64) → st.first ≡ 2 ^ (e % 64) → m' ≡ (record m.0 { pass = raising m.0.pass e }, m.1)
+
+  abbrev pub demand_loads : Step S → Me S View → ℕ → Me S View → Type 0
+  demand_loads st m n m' = (d : ℕ) → st.word ≡ demand_place m.0.extents d → (m' ≡ (record m.0 { pass = demands_looked m.0.pass d n }, m.1)) × TellsDemands m.0 d n

@@ -10,7 +10,7 @@ ghost use Rattle.aff_claim.specs.Words.{Names, word_at};
 use crate::ranking::Ranking;
 use crate::rule::{ClaimRule, Newcomer, Register};
 use crate::view::{Limits, View};
-use crate::word::{DRAWN_COUNT, claim_place, read_word, word_count};
+use crate::word::{DRAWN_COUNT, claim_place, demand_count, read_word, word_count};
 use crate::{BookSeat, Ended, Pass, Word};
 use aff_model::{Memory, Plan};
 use atomic_table::{Closed, Table};
@@ -69,7 +69,7 @@ impl Claims {
         ensures made { IfOk result (λ _. seat.new.view ≡ record seat.old.view { made = seat.old.view.made + 1; drawn = None }) }
         ensures refused { IfErr result (λ _. seat.new ≡ seat.old) }
     {
-        let Ok((ranking, seen)) = self.equipment() else {
+        let Ok((ranking, seen, served)) = self.equipment() else {
             return Err(Memory);
         };
         let number = self
@@ -82,6 +82,7 @@ impl Claims {
             number: number as u32,
             ranking,
             seen,
+            served,
             front: 0,
         })
     }
@@ -108,12 +109,16 @@ impl Claims {
     }
 
     // What a pass has beside its seat.
-    fn equipment(&self) -> Result<(Arc<Ranking, Global>, Vec<bool>), AllocError>
-        ensures { IfOk result (λ e. (arc_value e.0 ≡ self.now.ranking) × (e.1.items ≡ replicate self.now.table.extents false)) }
+    fn equipment(&self) -> Result<(Arc<Ranking, Global>, Vec<bool>, Vec<u64>), AllocError>
+        ensures ranking { IfOk result (λ e. arc_value e.0 ≡ self.now.ranking) }
+        ensures seen { IfOk result (λ e. e.1.items ≡ replicate self.now.table.extents false) }
+        ensures served { IfOk result (λ e. e.2.items ≡ replicate (spec.demand_count self.now.table.extents) 0) }
     {
+        let extents = self.ranking.len();
         let ranking = Arc::try_clone(&self.ranking)?;
-        let seen = vec![in self.alloc; false; self.ranking.len()]?;
-        Ok((ranking, seen))
+        let seen = vec![in self.alloc; false; extents]?;
+        let served = free_words(self.alloc, demand_count(extents))?;
+        Ok((ranking, seen, served))
     }
 }
 
@@ -140,7 +145,7 @@ fn table_of(alloc: Global, ranking: Ranking, workers: u32) -> Result<(Claims, Bo
     Ok((claims, BookSeat { seat }))
 }
 
-// The words of a table in which no extent is claimed.
+// So many words that are 0.
 fn free_words(alloc: Global, count: usize) -> Result<Vec<u64>, AllocError>
     ensures { IfOk result (λ v. v.items ≡ replicate count 0) }
 {

@@ -1,6 +1,6 @@
 //! Which extent a pass claims next.
 ghost use Rattle.std.specs.Prelude.{◌≡◌, ◌<◌, IsTrue, IfSome, IfNone, Contains, None, Some, false};
-ghost use Rattle.aff_claim.specs.Next.{HasClaimed, IsLater, KnowsAll};
+ghost use Rattle.aff_claim.specs.Next.{HasClaimed, HasServed, IsLater, KnowsAll};
 ghost use Rattle.aff_claim.specs.Steps.{tried};
 
 use crate::rule::{Claim, Turn};
@@ -12,9 +12,11 @@ impl Claims {
     /// The next extent for a pass to read, which it has claimed by its own exchange; None where it knows every extent
     /// to be taken.
     ///
-    /// The suggestion of `order` is a hint: it is claimed only where the pass knows each more urgent extent to be
-    /// taken. Else the pass goes on by falling priority and rising place, from where it stopped last. So all calls of
-    /// one pass together take a number of steps that grows with the number of extents, and each call one step more.
+    /// It looks at each demand word once, and claims what was asked for first. Where it knows all that to be taken, it
+    /// draws a suggestion of `order`, which is a hint: it is claimed only where the pass knows each more urgent extent to
+    /// be taken. Else the pass goes on by falling priority and rising place, from where it stopped last. So a call takes
+    /// a step for each demand word, and all calls of one pass together a number of further steps that grows with the
+    /// number of extents.
     pub fn next(&self, pass: &mut Pass, order: &mut Order) -> Option<u32>
         requires table { pass.old.claims ≡ self.now }
         requires worker { pass.old.view.number < self.now.table.workers }
@@ -25,6 +27,9 @@ impl Claims {
         ensures none { IfNone result ((pass.new.view.mine ≡ pass.old.view.mine) × KnowsAll self.now.table.extents pass.new.view) }
         ensures all_known { KnowsAll self.now.table.extents pass.old.view → result ≡ None }
     {
+        if let Some(extent) = self.claim_asked(pass) {
+            return Some(extent);
+        }
         let turn = self.turn(pass);
         if let Some(extent) = self.claim_suggested(pass, order.suggest(turn)) {
             return Some(extent);
@@ -36,10 +41,11 @@ impl Claims {
     fn claim_suggested(&self, pass: &mut Pass, suggestion: Option<u32>) -> Option<u32>
         requires table { pass.old.claims ≡ self.now }
         requires worker { pass.old.view.number < self.now.table.workers }
+        requires served { HasServed self.now.table.extents pass.old.view.looked pass.old.view.known }
         ensures table { pass.new.claims ≡ pass.old.claims }
         ensures later { IsLater pass.old.view pass.new.view }
         ensures some { IfSome result (λ extent. HasClaimed self.now.ranking.priorities extent pass.old.view pass.new.view) }
-        ensures none { IfNone result (pass.new.view.mine ≡ pass.old.view.mine) }
+        ensures none { IfNone result ((pass.new.view.mine ≡ pass.old.view.mine) × (pass.new.view.looked ≡ pass.old.view.looked)) }
         ensures all_known { KnowsAll self.now.table.extents pass.old.view → result ≡ None }
     {
         let extent = suggestion?;
@@ -55,6 +61,7 @@ impl Claims {
     fn claim_first(&self, pass: &mut Pass) -> Option<u32>
         requires table { pass.old.claims ≡ self.now }
         requires worker { pass.old.view.number < self.now.table.workers }
+        requires served { HasServed self.now.table.extents pass.old.view.looked pass.old.view.known }
         ensures table { pass.new.claims ≡ pass.old.claims }
         ensures later { IsLater pass.old.view pass.new.view }
         ensures some { IfSome result (λ extent. HasClaimed self.now.ranking.priorities extent pass.old.view pass.new.view) }
@@ -74,14 +81,14 @@ impl Claims {
     }
 
     // Tries to claim an extent.
-    fn claim(&self, pass: &mut Pass, extent: u32) -> bool
+    pub(crate) fn claim(&self, pass: &mut Pass, extent: u32) -> bool
         requires table { pass.old.claims ≡ self.now }
         requires planned { extent < self.now.table.extents }
         requires worker { pass.old.view.number < self.now.table.workers }
         ensures table { pass.new.claims ≡ pass.old.claims }
         ensures claimed { IsTrue result → pass.new.view ≡ tried pass.old.view extent Word.Free }
         ensures later { IsLater pass.old.view pass.new.view }
-        ensures mine { result ≡ false → pass.new.view.mine ≡ pass.old.view.mine }
+        ensures lost { result ≡ false → (pass.new.view.mine ≡ pass.old.view.mine) × (pass.new.view.looked ≡ pass.old.view.looked) }
         ensures known { Contains pass.new.view.known extent }
     {
         self.exchange(pass, extent) == Word::Free

@@ -1,6 +1,8 @@
 //! A thread's pass through the table.
-ghost use Rattle.std.specs.Prelude.{◌≡◌, ℕ, ◌<◌, ◌≤◌, ◌↔◌, IsTrue, Contains, length, slice_index};
+ghost use Rattle.std.specs.Prelude.{◌≡◌, ℕ, ◌+◌, ◌*◌, ◌<◌, ◌≤◌, ◌↔◌, IsTrue, Contains, length, slice_index};
+ghost use Rattle.aff_claim.specs.Demands.{Has};
 ghost use Rattle.aff_claim.specs.Next.{AreUrgentIn};
+ghost use Rattle.aff_claim.specs.Words.{demand_count};
 
 use crate::ranking::Ranking;
 use crate::view::View;
@@ -17,6 +19,8 @@ pub struct Pass {
     pub(crate) ranking: Arc<Ranking, Global>,
     /// Whether it knows each extent to be taken.
     pub(crate) seen: Vec<bool>,
+    /// For each demand word, bits of extents that it knows to be taken: those that stood there when it served them.
+    pub(crate) served: Vec<u64>,
     /// It knows as many of the ranking's first extents.
     pub(crate) front: usize,
 }
@@ -35,7 +39,7 @@ impl Model for Pass {
       view = p.seat.me.0.pass;
     } };
 
-    ghost invariant = { λ p. Remembers (arc_value p.ranking) p.seen.items p.front p.number p.seat.me.0 };
+    ghost invariant = { λ p. Remembers (arc_value p.ranking) p.seen.items p.served.items p.front p.number p.seat.me.0 };
 }
 
 impl Pass {
@@ -68,6 +72,22 @@ impl Pass {
         ensures { IsTrue result ↔ Contains self.now.view.known extent }
     {
         self.seen[extent as usize]
+    }
+
+    // Bits of a demand word whose extents it knows to be taken.
+    pub(crate) fn served(&self, number: usize) -> u64
+        requires { number < demand_count (length self.now.claims.ranking.priorities) }
+        ensures { (i : ℕ) → Has result i → Contains self.now.view.known (64 * number + i) }
+    {
+        self.served[number]
+    }
+
+    pub(crate) fn set_served(&mut self, number: usize, bits: u64)
+        requires number { number < demand_count (length self.old.claims.ranking.priorities) }
+        requires known { (i : ℕ) → Has bits i → Contains self.old.view.known (64 * number + i) }
+        ensures { self.new ≡ self.old }
+    {
+        self.served[number] = bits;
     }
 
     // Whether it may try to claim an extent: it does not know it to be taken, but each more urgent one.

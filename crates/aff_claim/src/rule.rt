@@ -86,3 +86,21 @@ impl Play<(), View> for Sweep {
 
     ghost then = { sweeps };
 }
+
+/// A pass asks for an extent.
+pub(crate) struct Raise;
+
+impl Play<(), View> for Raise {
+    ghost use Rattle.aff_claim.specs.Steps.{raises};
+
+    ghost then = { raises };
+}
+
+/// A pass loads a demand word.
+pub(crate) struct DemandLoad;
+
+impl Play<(), View> for DemandLoad {
+    ghost use Rattle.aff_claim.specs.Steps.{demand_loads};
+
+    ghost then = { demand_loads };
+}

@@ -33,7 +33,9 @@ fn plan_of(alloc: Global, priorities: &[u8]) -> Result<Plan, Fail>
 }
 
 // A plan of so many sectors of priority 0.
-fn plain_plan(alloc: Global, count: usize) -> Result<Plan, Fail> {
+fn plain_plan(alloc: Global, count: usize) -> Result<Plan, Fail>
+    ensures { IfOk result (λ p. length p.extents ≡ count) }
+{
     let priorities = vec![in alloc; 0u8; count]?;
     plan_of(alloc, &priorities)
 }
@@ -204,12 +206,66 @@ fn four_threads_claim_each_extent_once(rt: HostRuntime) -> Result<(), Fail> {
 }
 
 #[test]
-fn one_pass_claims_a_whole_plan(rt: HostRuntime) -> Result<(), Fail> {
+fn claim_steps(rt: HostRuntime) -> Result<(), Fail> {
     let alloc = rt.alloc();
-    let plan = plain_plan(alloc, 65_536)?;
+    let plan = plan_of(alloc, &[0, 0])?;
+    let (claims, mut seat) = Claims::new(alloc, &plan, 1)?;
+    let mut pass = claims.register(&mut seat)?;
+    let mut order = order_of(alloc, 2)?;
+    claims.raise(&mut pass, 1);
+    let answers = [
+        claims.next(&mut pass, &mut order),
+        claims.next(&mut pass, &mut order),
+        claims.next(&mut pass, &mut order),
+    ];
+    assert!(rt; answers == [Some(1), Some(0), None]);
+    let first = claims.publish_step(&mut seat, 1, 0);
+    let second = claims.publish_step(&mut seat, 1, 0);
+    assert!(rt; first.is_ok() && matches!(second, Err(Word::Published(0))));
+    let ended = claims.close(seat)?;
+    assert!(rt; ended.words.as_slice() == [Word::Claimed(0), Word::Published(0)].as_slice());
+    Ok(())
+}
+
+#[test]
+fn what_was_asked_for_goes_first(rt: HostRuntime) -> Result<(), Fail> {
+    let alloc = rt.alloc();
+    let plan = plain_plan(alloc, 200)?;
+    let (claims, mut seat) = Claims::new(alloc, &plan, 1)?;
+    let mut worker = claims.register(&mut seat)?;
+    let mut reader = claims.register(&mut seat)?;
+    let mut order = order_of(alloc, 200)?;
+    // the last one of each demand word, and one twice
+    claims.raise(&mut reader, 199);
+    claims.raise(&mut reader, 63);
+    claims.raise(&mut reader, 127);
+    claims.raise(&mut reader, 191);
+    claims.raise(&mut reader, 63);
+    let first = [
+        claims.next(&mut worker, &mut order),
+        claims.next(&mut worker, &mut order),
+        claims.next(&mut worker, &mut order),
+    ];
+    assert!(rt; first == [Some(63), Some(127), Some(191)]);
+    // one that is taken, and one more
+    claims.raise(&mut reader, 127);
+    claims.raise(&mut reader, 64);
+    let then = [
+        claims.next(&mut worker, &mut order),
+        claims.next(&mut worker, &mut order),
+        claims.next(&mut worker, &mut order),
+    ];
+    assert!(rt; then == [Some(64), Some(199), Some(0)]);
+    Ok(())
+}
+
+#[test]
+fn one_pass_claims_a_long_plan(rt: HostRuntime) -> Result<(), Fail> {
+    let alloc = rt.alloc();
+    let plan = plain_plan(alloc, 8_192)?;
     let (claims, mut seat) = Claims::new(alloc, &plan, 1)?;
     let pass = claims.register(&mut seat)?;
-    let order = order_of(alloc, 65_536)?;
+    let order = order_of(alloc, 8_192)?;
     let mut runner = Runner {
         pass,
         order,
@@ -217,6 +273,6 @@ fn one_pass_claims_a_whole_plan(rt: HostRuntime) -> Result<(), Fail> {
         sum: 0,
     };
     run(&claims, &mut runner);
-    assert!(rt; runner.claimed == 65_536);
+    assert!(rt; runner.claimed == 8_192);
     Ok(())
 }

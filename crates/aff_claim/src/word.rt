@@ -1,5 +1,5 @@
 //! Claim words, and where a table has its words.
-ghost use Rattle.std.specs.Prelude.{◌≡◌, ℕ, ◌<◌, ◌≤◌, ◌^◌};
+ghost use Rattle.std.specs.Prelude.{◌≡◌, ℕ, ◌/◌, ◌%◌, ◌<◌, ◌≤◌, ◌^◌};
 ghost use Rattle.aff_claim.specs.Words as spec;
 ghost use Rattle.aff_claim.specs.Words.{Names, word_of};
 
@@ -37,12 +37,42 @@ pub(crate) fn claim_place(extent: u32) -> usize
     extent as usize + 1
 }
 
-// The cursor of a table for so many extents.
+// How many demand words a table has for so many extents.
+pub(crate) fn demand_count(extents: usize) -> usize
+    requires { extents ≤ 65536 }
+    ensures { result ≡ spec.demand_count extents }
+{
+    extents.div_ceil(64)
+}
+
+// A demand word of such a table.
+pub(crate) fn demand_place(extents: usize, number: usize) -> usize
+    requires { (extents ≤ 65536) × (number < spec.demand_count extents) }
+    ensures { result ≡ spec.demand_place extents number }
+{
+    extents + 1 + number
+}
+
+// The demand word that has an extent's bit, from the first on.
+pub(crate) fn demand_number(extent: u32) -> usize
+    ensures { result ≡ extent / 64 }
+{
+    extent as usize / 64
+}
+
+// The bit of an extent in its demand word.
+pub(crate) fn demand_bit(extent: u32) -> u64
+    ensures { result ≡ 2 ^ (extent % 64) }
+{
+    1 << (extent % 64)
+}
+
+// The cursor of such a table.
 pub(crate) fn cursor_place(extents: usize) -> usize
     requires { extents ≤ 65536 }
     ensures { result ≡ spec.cursor_place extents }
 {
-    extents + 1
+    extents + 1 + demand_count(extents)
 }
 
 // How many words it has.
@@ -50,5 +80,5 @@ pub(crate) fn word_count(extents: usize) -> usize
     requires { extents ≤ 65536 }
     ensures { result ≡ spec.word_count extents }
 {
-    extents + 2
+    extents + 2 + demand_count(extents)
 }

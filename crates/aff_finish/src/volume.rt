@@ -23,11 +23,13 @@ use aff_names::{Urn, Uuid};
 use aff_outside::{Folder, FolderError};
 use aff_store::Stream;
 use std::alloc::Global;
+use std::thread::Threads;
 
 /// Finishes a volume whose chunks are all written: ends its stream, appends its map with these entries and the list of
 /// its targets, takes the hashes of what the folder then has, and appends what the volume says of itself, the
 /// metadata with the hashes last. So a folder that could not be read back has no metadata.
-pub fn finish<F: Folder>(
+pub fn finish<R: Threads + Sync, F: Folder>(
+    rt: &R,
     alloc: Global,
     folder: &mut F,
     stream: &mut Stream,
@@ -51,7 +53,7 @@ pub fn finish<F: Folder>(
         Ok(segments) => segments,
         Err(error) => return Err(error),
     };
-    let hashes = match hash(alloc, folder, plan, uuid, entries, chunks, &segments) {
+    let hashes = match hash(rt, alloc, folder, plan, uuid, entries, chunks, &segments) {
         Ok(hashes) => hashes,
         Err(error) => return Err(error),
     };
@@ -107,7 +109,8 @@ fn end_with<F: Folder>(
 }
 
 // Takes the hashes of a volume whose stream has ended.
-fn hash<F: Folder>(
+fn hash<R: Threads + Sync, F: Folder>(
+    rt: &R,
     alloc: Global,
     folder: &mut F,
     plan: &Plan,
@@ -125,7 +128,7 @@ fn hash<F: Folder>(
     ensures same { IsTrue F.tells → F.held folder.new ≡ F.held folder.old }
     ensures cause { HasCause (F.folder_faults folder.old) (F.folder_faults folder.new) (IsErrOf result FolderError.Failed) }
 {
-    let linear = match hash_image(alloc, folder, uuid.text(), entries, plan.size()) {
+    let linear = match hash_image(rt, alloc, folder, uuid.text(), entries, plan.size()) {
         Ok(linear) => linear,
         Err(error) => return Err(error),
     };

@@ -2,6 +2,7 @@
 //! (`aff_lanes`), and of an image that comes piece by piece; and the line that states one.
 #![tactic(auto)]
 
+mod beside;
 mod chosen;
 mod fed;
 mod kind;

@@ -2,6 +2,7 @@
 ghost use Rattle.std.specs.Prelude.{◌≡◌, ◌++◌, []};
 ghost use Rattle.aff_hash.specs.Digest.{digest_of};
 
+use crate::beside::{feed_md5_and_sha1, feed_sha256_and_sha512};
 use crate::fed::with_next;
 use crate::{Digests, Hash};
 use aff_lanes::Sha256Hasher;
@@ -10,6 +11,7 @@ use md5::{Digest as Md5Hasher, Md5};
 use sha1::Sha1;
 use sha2::{Digest as Sha2Hasher, Sha512};
 use std::marker::Model;
+use std::thread::{Threads, join_mut};
 
 /// The linear hash of an image: its four digests, from bytes that are fed in order. Clauses see the list
 /// of all bytes that were fed. It has a fixed size and takes no memory.
@@ -56,6 +58,27 @@ impl Linear {
         self.sha256.update(bytes);
         self.sha512.update(bytes);
         self.fed = with_next(&self.fed, bytes);
+    }
+
+    /// Feeds the next bytes, as `update` does, to the four hash functions side by side. Three threads are begun and
+    /// joined at each call, so it pays for pieces of about a mebibyte and more; where none can be begun, one
+    /// digest is fed after another.
+    pub fn update_beside<R: Threads + Sync>(&mut self, rt: &R, bytes: &[u8])
+        ensures { self.new ≡ self.old ++ bytes.now }
+    {
+        let Linear {
+            md5,
+            sha1,
+            sha256,
+            sha512,
+            fed,
+        } = self;
+        join_mut(
+            rt,
+            &mut || feed_sha256_and_sha512(rt, sha256, sha512, bytes),
+            &mut || feed_md5_and_sha1(rt, md5, sha1, bytes),
+        );
+        *fed = with_next(fed, bytes);
     }
 
     /// The digests of all bytes that were fed.

@@ -158,6 +158,22 @@ fn how_the_whole_is_cut_makes_no_difference(rt: HostRuntime) -> Result<(), Fail>
     Ok(())
 }
 
+// Side by side or one after another: the same digests.
+#[test]
+fn threads_give_the_same_digests(rt: HostRuntime) -> Result<(), Fail> {
+    let whole = extent(rt.alloc())?;
+    let mut beside = Linear::new();
+    let mut alone = Linear::new();
+    for piece in whole.chunks(100_001) {
+        beside.update_beside(&rt, piece);
+        alone.update(piece);
+    }
+    let found = beside.finish();
+    assert_eq!(rt; found, alone.finish());
+    assert_eq!(rt; found.sha512, digest(Hash::Sha512, &whole).bytes);
+    Ok(())
+}
+
 #[test]
 fn a_line_has_a_name_and_digits_in_lower_case(rt: HostRuntime) -> Result<(), Fail> {
     let line = hex_line(rt.alloc(), "sha1", &[0, 10, 171, 255])?;

@@ -7,22 +7,22 @@ ghost use Rattle.aff_spec.specs.Walks.{IsWalkable};
 ghost use Rattle.aff_spec.specs.Words.{is_uuid};
 ghost use Rattle.aff_linear.specs.Feeds.{AreDigestsOf, IsBetween, IsImageIn, IsInStream, image_range, run_bytes};
 
+use crate::feeder::Feeder;
 use crate::stored::feed_stored;
 use crate::symbols::feed_symbols;
-use aff_fields::{Entry, zeros};
-use aff_hash::{Digests, Linear};
+use aff_fields::Entry;
+use aff_hash::Digests;
 use aff_map::Target;
 use aff_names::Urn;
 use aff_outside::{Folder, FolderError};
 use std::alloc::Global;
-
-// How many bytes are read and hashed at a time.
-const PIECE_LEN: usize = 1_048_576;
+use std::thread::Threads;
 
 /// The digests of all bytes of an image of `size` bytes, one after another, which the folder holds by these
-/// entries of its map and the stream of its volume. Nothing is kept of the bytes but one piece of 1 MiB.
-/// What the folder holds stays, whatever the answer.
-pub fn hash_image<F: Folder>(
+/// entries of its map and the stream of its volume. Nothing is kept of the bytes but one piece of 1 MiB,
+/// whose four digests are taken side by side. What the folder holds stays, whatever the answer.
+pub fn hash_image<R: Threads + Sync, F: Folder>(
+    rt: &R,
     alloc: Global,
     folder: &mut F,
     uuid: &str,
@@ -38,42 +38,32 @@ pub fn hash_image<F: Folder>(
     ensures cause { HasCause (F.folder_faults folder.old) (F.folder_faults folder.new) (IsErrOf result FolderError.Failed) }
 {
     let stream = stream_of(alloc, uuid)?;
-    let mut buffer = zeros(alloc, PIECE_LEN)?;
-    let mut linear = Linear::new();
-    match feed_image(
-        alloc,
-        folder,
-        &stream,
-        entries,
-        size,
-        &mut buffer,
-        &mut linear,
-    ) {
-        Ok(()) => Ok(linear.finish()),
+    let mut feeder = Feeder::new(alloc)?;
+    match feed_image(rt, alloc, folder, &stream, entries, size, &mut feeder) {
+        Ok(()) => Ok(feeder.finish(rt)),
         Err(error) => Err(error),
     }
 }
 
 // Feeds all bytes of an image.
-fn feed_image<F: Folder>(
+fn feed_image<R: Threads + Sync, F: Folder>(
+    rt: &R,
     alloc: Global,
     folder: &mut F,
     stream: &Urn,
     entries: &[Entry],
     size: u64,
-    buffer: &mut [u8],
-    linear: &mut Linear,
+    feeder: &mut Feeder,
 ) -> Result<(), FolderError>
-    requires room { 0 < length buffer.old }
     requires size { size ≤ 2 ^ 44 }
     requires image { IsImageIn F.tells (F.held folder.old) stream.now size entries.now }
-    ensures fed { OnOk result (IsTrue F.tells → linear.new ≡ linear.old ++ image_range (F.held folder.old) stream.now entries.now 0 size) }
+    ensures fed { OnOk result (IsTrue F.tells → feeder.new ≡ feeder.old ++ image_range (F.held folder.old) stream.now entries.now 0 size) }
     ensures same { IsTrue F.tells → F.held folder.new ≡ F.held folder.old }
     ensures cause { HasCause (F.folder_faults folder.old) (F.folder_faults folder.new) (IsErrOf result FolderError.Failed) }
 {
-    match feed_entries(alloc, folder, stream, entries, size, buffer, linear) {
+    match feed_entries(rt, alloc, folder, stream, entries, size, feeder) {
         Ok(at) => {
-            feed_symbols(linear, Target::Unknown, at, size - at, buffer);
+            feed_symbols(rt, feeder, Target::Unknown, at, size - at);
             Ok(())
         }
         Err(error) => Err(error),
@@ -81,28 +71,27 @@ fn feed_image<F: Folder>(
 }
 
 // Feeds the bytes of an image up to the end of its last entry, and answers that place.
-fn feed_entries<F: Folder>(
+fn feed_entries<R: Threads + Sync, F: Folder>(
+    rt: &R,
     alloc: Global,
     folder: &mut F,
     stream: &Urn,
     entries: &[Entry],
     size: u64,
-    buffer: &mut [u8],
-    linear: &mut Linear,
+    feeder: &mut Feeder,
 ) -> Result<u64, FolderError>
-    requires room { 0 < length buffer.old }
     requires size { size ≤ 2 ^ 44 }
     requires image { IsImageIn F.tells (F.held folder.old) stream.now size entries.now }
     ensures last { IfOk result (λ at. IsBetween entries.now (length entries.now) at) }
     ensures inside { IfOk result (λ at. at ≤ size) }
-    ensures fed { IfOk result (λ at. IsTrue F.tells → linear.new ≡ linear.old ++ image_range (F.held folder.old) stream.now entries.now 0 at) }
+    ensures fed { IfOk result (λ at. IsTrue F.tells → feeder.new ≡ feeder.old ++ image_range (F.held folder.old) stream.now entries.now 0 at) }
     ensures same { IsTrue F.tells → F.held folder.new ≡ F.held folder.old }
     ensures cause { HasCause (F.folder_faults folder.old) (F.folder_faults folder.new) (IsErrOf result FolderError.Failed) }
 {
     let mut at = 0;
     for entry in entries {
-        feed_symbols(linear, Target::Unknown, at, entry.at - at, buffer);
-        match feed_entry(alloc, folder, stream, entry, buffer, linear) {
+        feed_symbols(rt, feeder, Target::Unknown, at, entry.at - at);
+        match feed_entry(rt, alloc, folder, stream, entry, feeder) {
             Ok(()) => at = entry.at + entry.len,
             Err(error) => return Err(error),
         }
@@ -111,18 +100,17 @@ fn feed_entries<F: Folder>(
 }
 
 // Feeds the bytes of an entry.
-fn feed_entry<F: Folder>(
+fn feed_entry<R: Threads + Sync, F: Folder>(
+    rt: &R,
     alloc: Global,
     folder: &mut F,
     stream: &Urn,
     entry: &Entry,
-    buffer: &mut [u8],
-    linear: &mut Linear,
+    feeder: &mut Feeder,
 ) -> Result<(), FolderError>
-    requires room { 0 < length buffer.old }
     requires fits { entry.now.at + entry.now.len < 2 ^ 64 }
     requires stored { entry.now.target ≡ 0 → IsInStream F.tells (F.held folder.old) stream.now entry.now.target_at entry.now.len }
-    ensures fed { OnOk result (IsTrue F.tells → linear.new ≡ linear.old ++ run_bytes (F.held folder.old) stream.now entry.now) }
+    ensures fed { OnOk result (IsTrue F.tells → feeder.new ≡ feeder.old ++ run_bytes (F.held folder.old) stream.now entry.now) }
     ensures same { IsTrue F.tells → F.held folder.new ≡ F.held folder.old }
     ensures cause { HasCause (F.folder_faults folder.old) (F.folder_faults folder.new) (IsErrOf result FolderError.Failed) }
 {
@@ -133,13 +121,13 @@ fn feed_entry<F: Folder>(
         target,
     } = *entry;
     match target {
-        0 => feed_stored(alloc, folder, stream, target_at, len, buffer, linear),
+        0 => feed_stored(rt, alloc, folder, stream, target_at, len, feeder),
         1 => {
-            feed_symbols(linear, Target::Zero, at, len, buffer);
+            feed_symbols(rt, feeder, Target::Zero, at, len);
             Ok(())
         }
         _ => {
-            feed_symbols(linear, Target::Unreadable, at, len, buffer);
+            feed_symbols(rt, feeder, Target::Unreadable, at, len);
             Ok(())
         }
     }

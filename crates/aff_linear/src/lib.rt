@@ -5,6 +5,7 @@
 //! buffer.
 #![tactic(auto)]
 
+mod feeder;
 mod image;
 mod stored;
 mod symbols;

@@ -3,28 +3,30 @@ ghost use Rattle.std.specs.Prelude.{◌≡◌, ◌+◌, ◌<◌, ◌^◌, ◌++�
 ghost use Rattle.std.specs.List.{range_with_len};
 ghost use Rattle.aff_map.specs.Symbol.{IsSymbolic, symbol_of};
 
-use aff_hash::Linear;
+use crate::feeder::Feeder;
 use aff_map::{Target, symbol};
+use std::thread::Threads;
 
-/// Feeds `len` bytes of a symbolic stream from the place `at` on, in pieces of the buffer's length.
-pub fn feed_symbols(linear: &mut Linear, target: Target, at: u64, len: u64, buffer: &mut [u8])
+/// Feeds `len` bytes of a symbolic stream from the place `at` on.
+pub(crate) fn feed_symbols<R: Threads + Sync>(
+    rt: &R,
+    feeder: &mut Feeder,
+    target: Target,
+    at: u64,
+    len: u64,
+)
     requires symbolic { IsSymbolic target }
-    requires room { 0 < length buffer.old }
     requires fits { at + len < 2 ^ 64 }
-    ensures { linear.new ≡ linear.old ++ map (symbol_of target) (range_with_len at len) }
+    ensures { feeder.new ≡ feeder.old ++ map (symbol_of target) (range_with_len at len) }
 {
     let mut done = 0;
     while done < len {
-        let count = (len - done).min(buffer.len() as u64);
-        let piece = &mut buffer[..count as usize];
-        fill(piece, target, at + done);
-        linear.update(piece);
-        done += count;
+        done += feeder.take_symbols(rt, target, at + done, len - done);
     }
 }
 
-// Fills a buffer with the bytes of a symbolic stream from a place on.
-fn fill(out: &mut [u8], target: Target, at: u64)
+/// Fills a buffer with the bytes of a symbolic stream from a place on.
+pub(crate) fn fill(out: &mut [u8], target: Target, at: u64)
     requires symbolic { IsSymbolic target }
     requires fits { at + length out.old < 2 ^ 64 }
     ensures { out.new ≡ map (symbol_of target) (range_with_len at (length out.old)) }

@@ -85,10 +85,15 @@ pub fn reports(ran: &Ran, lines: &str) -> Result<(), Fail> {
     if ran.status != 0 {
         return Err("another status")?;
     }
-    if !has_part(&ran.written, lines.as_bytes()) {
+    if !has_line(ran, lines) {
         return Err("other lines")?;
     }
     Ok(())
+}
+
+/// Whether the report has these lines, one behind the other.
+pub fn has_line(ran: &Ran, lines: &str) -> bool {
+    has_part(&ran.written, lines.as_bytes())
 }
 
 fn has_part(bytes: &[u8], part: &[u8]) -> bool {

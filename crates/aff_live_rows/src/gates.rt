@@ -130,35 +130,36 @@ impl Gate for InTurn {
     }
 }
 
-/// Looks whether the steps are these, in this order.
+/// Holds a session's questions until the worker's first reading has come, and that reading until the first question was
+/// answered.
 #[derive(Drop)]
-pub struct Steps<'a> {
-    wanted: &'a [GateStep],
-    told: AtomicU64,
-    others: AtomicU64,
+pub struct AskedFirst {
+    readings: AtomicU64,
+    answers: AtomicU64,
 }
 
-impl Steps<'_> {
-    pub fn of(wanted: &[GateStep]) -> Steps<'_> {
-        Steps {
-            wanted,
-            told: AtomicU64::new(0),
-            others: AtomicU64::new(0),
+impl AskedFirst {
+    pub fn new() -> AskedFirst {
+        AskedFirst {
+            readings: AtomicU64::new(0),
+            answers: AtomicU64::new(0),
         }
     }
-
-    /// Whether each came, and no other.
-    pub fn are_all(&self) -> bool {
-        self.told.load(Ordering::SeqCst) == self.wanted.len() as u64
-            && self.others.load(Ordering::SeqCst) == 0
-    }
 }
 
-impl Gate for Steps<'_> {
+impl Gate for AskedFirst {
     fn at(&self, step: GateStep) {
-        let place = self.told.fetch_add(1, Ordering::SeqCst) as usize;
-        if self.wanted.get(place).copied() != Some(step) {
-            self.others.fetch_add(1, Ordering::SeqCst);
+        match step {
+            GateStep::Reading(_) => {
+                if self.readings.fetch_add(1, Ordering::SeqCst) == 0 {
+                    wait_for(&self.answers, 1);
+                }
+            }
+            GateStep::Asking(_) => wait_for(&self.readings, 1),
+            GateStep::Answered(_, _) => {
+                self.answers.fetch_add(1, Ordering::SeqCst);
+            }
+            GateStep::Published(_) => {}
         }
     }
 }

@@ -1,6 +1,7 @@
 //! What sessions see while the image grows.
 use crate::fixture::{card, reports, run};
-use crate::gates::{BehindEach, FirstPublished, InTurn, Steps};
+use crate::gates::{BehindEach, FirstPublished, InTurn};
+use aff_memory::RecordingGate;
 use aff_outside::GateStep;
 use std::test::Fail;
 
@@ -70,8 +71,7 @@ fn looks_beside_a_worker(rt: HostRuntime) -> Result<(), Fail> {
 
 #[test]
 fn a_run_tells_its_steps(rt: HostRuntime) -> Result<(), Fail> {
-    let wanted = [GateStep::Reading(0), GateStep::Published(1)];
-    let gate = Steps::of(&wanted);
+    let gate = RecordingGate::new(&rt)?;
     let ran = run(
         &rt,
         b"extent 0 512 0\n",
@@ -79,6 +79,7 @@ fn a_run_tells_its_steps(rt: HostRuntime) -> Result<(), Fail> {
         &[],
         &gate,
     )?;
-    assert!(rt; ran.status == 0 && gate.are_all());
+    let steps = [GateStep::Reading(0), GateStep::Published(1)];
+    assert!(rt; ran.status == 0 && gate.steps()?.as_slice() == steps.as_slice());
     Ok(())
 }

@@ -5,6 +5,8 @@
 #[cfg(test)]
 mod answers;
 #[cfg(test)]
+mod demands;
+#[cfg(test)]
 mod fixture;
 #[cfg(test)]
 mod gates;

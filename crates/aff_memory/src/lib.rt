@@ -5,7 +5,8 @@
 //! the object's methods, that are to fail. Such a call answers that it failed and does nothing else, and no
 //! other call answers so. A folder also has such a list for each of its peeks.
 //!
-//! The folder holds the bytes of each append once, and shares them with the receipt of that append.
+//! The folder holds the bytes of each append once, and shares them with the receipt of that append. Beside them stands a gate
+//! that keeps the steps of a run.
 #![tactic(auto)]
 
 mod block_size;
@@ -16,6 +17,7 @@ mod flaky_device;
 mod folder;
 mod kept;
 mod peek;
+mod recording_gate;
 mod shared_bytes;
 mod shelf;
 #[cfg(test)]
@@ -27,4 +29,5 @@ pub use flaky::Flaky;
 pub use flaky_device::FlakyDevice;
 pub use folder::MemoryFolder;
 pub use peek::{MemoryPeek, MemoryReceipt};
+pub use recording_gate::RecordingGate;
 pub use text::{MemorySink, MemorySource};

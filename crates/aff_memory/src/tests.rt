@@ -1,10 +1,12 @@
 //! What no clause says: that calls succeed where there is memory, and each call once.
 ghost use Rattle.std.specs.Prelude.{◌≡◌, ◌*◌, IfOk, IfSome, IsTrue, vec_len};
 
-use crate::{FixedDevice, Flaky, FlakyDevice, MemoryFolder, MemorySink, MemorySource};
+use crate::{
+    FixedDevice, Flaky, FlakyDevice, MemoryFolder, MemorySink, MemorySource, RecordingGate,
+};
 use aff_outside::{
-    Device, DeviceFailed, Folder, FolderError, Peek, PeekFailed, Sink, SinkError, Source,
-    SourceFailed, read_segment,
+    Device, DeviceFailed, Folder, FolderError, Gate, GateStep, Peek, PeekFailed, Sink, SinkError,
+    Source, SourceFailed, read_segment,
 };
 use std::alloc::{AllocError, Global};
 use std::test::Fail;
@@ -186,5 +188,23 @@ fn sink_keeps_what_is_written(rt: HostRuntime) -> Result<(), Fail> {
     assert_eq!(rt; sink.write(b"two "), Err(SinkError::Failed));
     assert_eq!(rt; sink.write(b"three"), Ok(()));
     assert!(rt; sink.written() == b"one three".as_slice());
+    Ok(())
+}
+
+#[test]
+fn recording_gate_keeps_each_step(rt: HostRuntime) -> Result<(), Fail> {
+    let gate = RecordingGate::new(&rt)?;
+    assert!(rt; gate.steps()?.is_empty());
+    let told = [
+        GateStep::Reading(0),
+        GateStep::Asking(1),
+        GateStep::Published(1),
+        GateStep::Answered(1, 1),
+    ];
+    for step in &told {
+        gate.at(*step);
+    }
+    assert!(rt; gate.steps()?.as_slice() == told.as_slice());
+    assert!(rt; gate.steps()?.as_slice() == told.as_slice());
     Ok(())
 }

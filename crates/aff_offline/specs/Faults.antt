@@ -4,12 +4,13 @@ use Rattle.aff_volume.specs.declared.error.VolumeError.{VolumeError}
 use Rattle.aff_volume.specs.declared.error.VolumeError.TheVariants as volumes
 use Rattle.aff_volume.specs.declared.error.VolumeReadError.{VolumeReadError}
 use Rattle.aff_volume.specs.declared.error.VolumeReadError.TheVariants as reads
-use Rattle.aff_offline.specs.Findings.{damaged_line, finding_line}
+use Rattle.aff_offline.specs.Findings.{finding_line}
 use Rattle.aff_offline.specs.Refusals.{volume_line}
 use Rattle.aff_offline.specs.declared.fault.Fault.{Fault}
 use Rattle.aff_offline.specs.declared.fault.Fault.TheVariants.{Usage, Volume, Range, Damaged, Unsound, Folder, Memory}
 use Rattle.aff_offline.specs.declared.fault.RangeFault.{RangeFault}
 use Rattle.aff_offline.specs.declared.fault.RangeFault.TheVariants.{TooLong, PastEnd}
+use Rattle.aff_report.specs.Damage.{damaged_line}
 
 -- a refusal of a folder as a volume is told as what it is; a folder that failed and want of memory are the command's own faults
 abbrev pub of_volume : VolumeError → Fault

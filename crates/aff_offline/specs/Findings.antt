@@ -20,10 +20,6 @@ kind_word Sha512 = codes "sha512"
 abbrev pub digits_of : Digest → List ℕ
 digits_of d = encode_lower (take (digest_size d.kind) d.bytes)
 
--- the line of a chunk whose SHA-256 is another than the recorded one
-abbrev pub damaged_line : ℕ → List ℕ → List ℕ → List ℕ
-damaged_line chunk recorded found = codes "damaged " ++ (decimal chunk ++ (codes " " ++ (encode_lower recorded ++ (codes " " ++ (encode_lower found ++ codes "\n")))))
-
 -- the line of a recorded digest that is not that of what is held
 abbrev pub finding_line : Finding → List ℕ
 finding_line (Block kind chunk recorded found) =

@@ -8,11 +8,12 @@ use Rattle.aff_verify.specs.declared.finding.Finding.{Finding}
 use Rattle.aff_volume.specs.declared.error.VolumeError.{VolumeError}
 use Rattle.aff_offline.specs.Answered.{IsAnswer, IsDamageOf, IsFindingOf, IsKept, IsRangeOf, IsRefusedAs, ShownFolder}
 use Rattle.aff_offline.specs.Faults.{code_of, line_of, range_line}
-use Rattle.aff_offline.specs.Findings.{damaged_line, finding_line}
+use Rattle.aff_offline.specs.Findings.{finding_line}
 use Rattle.aff_offline.specs.Refusals.{volume_line}
 use Rattle.aff_offline.specs.Written.{IsWrittenInPart, ShownSink}
 use Rattle.aff_offline.specs.declared.fault.Fault.{Fault}
 use Rattle.aff_offline.specs.declared.fault.RangeFault.{RangeFault}
+use Rattle.aff_report.specs.Damage.{damaged_line}
 
 -- what is asked, and that it has this property
 pub record Asks (words : List (List ℕ)) (P : Offline → Type 0) : Type 0 where

@@ -6,11 +6,12 @@ use crate::described::info_text;
 use crate::fault::{Fault, RangeFault, fault_of_read, fault_of_volume};
 use aff_command::Offline;
 use aff_fields::zeros;
-use aff_model::MAX_READ;
+use aff_model::{MAX_READ, Memory};
 use aff_outside::Folder;
 use aff_verify::Verdict;
 use aff_volume::Volume;
-use std::alloc::Global;
+use std::alloc::{AllocError, Global};
+use std::thread::Threads;
 
 // Why a range of an image of so many bytes is refused.
 fn refuse_range(size: u64, at: u64, len: u64) -> Option<RangeFault>
@@ -55,18 +56,22 @@ fn describe<F: Folder>(alloc: Global, folder: &mut F) -> Result<Vec<u8>, Fault>
     };
     match info_text(alloc, volume.info(), volume.aside()) {
         Ok(text) => Ok(text.into_bytes()),
-        Err(_) => Err(Fault::Memory),
+        Err(Memory) => Err(Fault::Memory),
     }
 }
 
-fn verify<F: Folder>(alloc: Global, folder: &mut F) -> Result<Vec<u8>, Fault>
+fn verify<R: Threads + Sync, F: Folder>(
+    rt: &R,
+    alloc: Global,
+    folder: &mut F,
+) -> Result<Vec<u8>, Fault>
     ensures answered { IsAnswered F.tells Offline.Verify (shown_folder F.Folder folder.old) (shown_folder F.Folder folder.new) result }
     ensures kept { IsKept F.tells (shown_folder F.Folder folder.old) (shown_folder F.Folder folder.new) }
 {
-    match aff_verify::verify(alloc, folder) {
+    match aff_verify::verify(rt, alloc, folder) {
         Ok(Verdict::Sound) => match Vec::from_slice(alloc, b"sound\n") {
             Ok(text) => Ok(text),
-            Err(_) => Err(Fault::Memory),
+            Err(AllocError) => Err(Fault::Memory),
         },
         Ok(Verdict::Unsound(finding)) => Err(Fault::Unsound(finding)),
         Err(error) => Err(fault_of_volume(error)),
@@ -74,13 +79,18 @@ fn verify<F: Folder>(alloc: Global, folder: &mut F) -> Result<Vec<u8>, Fault>
 }
 
 /// What is answered of the volume in a folder.
-pub fn answer<F: Folder>(alloc: Global, asked: Offline, folder: &mut F) -> Result<Vec<u8>, Fault>
+pub fn answer<R: Threads + Sync, F: Folder>(
+    rt: &R,
+    alloc: Global,
+    asked: Offline,
+    folder: &mut F,
+) -> Result<Vec<u8>, Fault>
     ensures answered { IsAnswered F.tells asked (shown_folder F.Folder folder.old) (shown_folder F.Folder folder.new) result }
     ensures kept { IsKept F.tells (shown_folder F.Folder folder.old) (shown_folder F.Folder folder.new) }
 {
     match asked {
         Offline::Read { at, len } => read(alloc, folder, at, len),
         Offline::Info => describe(alloc, folder),
-        Offline::Verify => verify(alloc, folder),
+        Offline::Verify => verify(rt, alloc, folder),
     }
 }

@@ -33,7 +33,7 @@ fn hash_lines(alloc: Global, info: &Info) -> Result<String, Memory>
     let last = hex_line(alloc, "blockmap", &info.block_map)?;
     match lines.push_str(last.as_str()) {
         Ok(()) => Ok(lines),
-        Err(_) => Err(Memory),
+        Err(AllocError) => Err(Memory),
     }
 }
 
@@ -70,6 +70,6 @@ pub fn info_text(alloc: Global, info: &Info, aside: u64) -> Result<String, Memor
     };
     match joined(alloc, sizes.as_str(), hashes.as_str(), aside) {
         Ok(text) => Ok(text),
-        Err(_) => Err(Memory),
+        Err(AllocError) => Err(Memory),
     }
 }

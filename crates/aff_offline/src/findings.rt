@@ -3,7 +3,7 @@ ghost use Rattle.std.specs.Prelude.{◌≡◌, IfOk};
 ghost use Rattle.std.specs.String.{string_bytes};
 ghost use Rattle.aff_hash.specs.Digest.{digest_size};
 ghost use Rattle.hex.specs.Hex.{encode_lower};
-ghost use Rattle.aff_offline.specs.Findings.{damaged_line, digits_of, finding_line, kind_word};
+ghost use Rattle.aff_offline.specs.Findings.{digits_of, finding_line, kind_word};
 
 use aff_hash::{Digest, Hash};
 use aff_verify::Finding;
@@ -39,20 +39,6 @@ fn digits(alloc: Global, digest: &Digest) -> Result<String, AllocError>
 {
     let len = digest_len(digest.kind);
     hex::encode(alloc, &digest.bytes[..len])
-}
-
-/// The line of a damaged chunk, which speaks of SHA-256.
-pub fn damaged_line(
-    alloc: Global,
-    chunk: u64,
-    recorded: &[u8],
-    found: &[u8],
-) -> Result<String, AllocError>
-    ensures { IfOk result (λ line. string_bytes line ≡ damaged_line chunk recorded.now found.now) }
-{
-    let recorded = hex::encode(alloc, recorded)?;
-    let found = hex::encode(alloc, found)?;
-    format!(in alloc; "damaged {chunk} {recorded} {found}\n")
 }
 
 /// The line of what a verification found.

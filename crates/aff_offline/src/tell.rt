@@ -6,9 +6,10 @@ ghost use Rattle.aff_offline.specs.Faults.{code_of, line_of};
 ghost use Rattle.aff_offline.specs.Written.{IsTold, IsWrittenInPart, shown_sink};
 
 use crate::fault::{Fault, RangeFault};
-use crate::findings::{damaged_line, finding_line};
+use crate::findings::finding_line;
 use crate::refusals::volume_line;
 use aff_outside::{Sink, SinkError};
+use aff_report::damaged_line;
 use std::alloc::{AllocError, Global};
 
 // The line of a fault.

@@ -5,9 +5,10 @@ use crate::sample::{
 };
 use aff_fields::{Entry, write_entries};
 use aff_memory::{MemoryFolder, MemorySink};
-use std::alloc::Global;
+use std::alloc::{Alloc, Global};
 use std::str;
 use std::test::Fail;
+use std::thread::Threads;
 
 /// What `info` says of the sample.
 const DESCRIBED: &str = "0 volume aff4://11111111-2222-4333-8444-555555555555
@@ -28,14 +29,15 @@ const BEGUN: &str = "@prefix a: <http://aff4.org/Schema#> .
 <aff4://11111111-2222-4333-8444-555555555555/data> a a:ImageStream ; a:size 65536 ; a:chunksInSegment 1024 ; a:chunkSize ";
 
 /// The status of a command over a folder, a space, and what it writes to a sink whose calls of these numbers fail.
-fn told(
-    alloc: Global,
+fn told<R: Alloc<A = Global> + Threads + Sync>(
+    rt: &R,
     words: &[&str],
     folder: &mut MemoryFolder,
     fail: Vec<u64>,
 ) -> Result<String, Fail> {
+    let alloc = rt.alloc();
     let mut sink = MemorySink::new(alloc, fail);
-    let status = run_offline(alloc, words, folder, &mut sink);
+    let status = run_offline(rt, alloc, words, folder, &mut sink);
     match str::from_utf8(sink.written()) {
         Ok(text) => Ok(format!(in alloc; "{status} {text}")?),
         Err(_) => Err("no text")?,
@@ -43,9 +45,14 @@ fn told(
 }
 
 /// The same over the sample with a change, to a sink that does not fail.
-fn said(alloc: Global, words: &[&str], change: Change<'_>) -> Result<String, Fail> {
+fn said<R: Alloc<A = Global> + Threads + Sync>(
+    rt: &R,
+    words: &[&str],
+    change: Change<'_>,
+) -> Result<String, Fail> {
+    let alloc = rt.alloc();
     let mut folder = sample(alloc, Vec::new(alloc), change)?;
-    told(alloc, words, &mut folder, Vec::new(alloc))
+    told(rt, words, &mut folder, Vec::new(alloc))
 }
 
 #[test]
@@ -75,16 +82,20 @@ fn commands_over_a_whole_volume(rt: HostRuntime) -> Result<(), Fail> {
         (&["acquire", "F", uuid, "D"], "2 error usage\n"),
     ];
     for (words, expected) in rows {
-        assert_eq!(rt; said(alloc, words, Change::Nothing)?.as_str(), expected);
+        assert_eq!(rt; said(&rt, words, Change::Nothing)?.as_str(), expected);
     }
     Ok(())
 }
 
 /// Whether each command over the sample with a change says this line, and nothing else.
-fn is_refused(alloc: Global, change: Change<'_>, line: &str) -> Result<bool, Fail> {
-    let info = said(alloc, &["info", "F"], change)?;
-    let verify = said(alloc, &["verify", "F"], change)?;
-    let read = said(alloc, &["read", "F", "0", "0"], change)?;
+fn is_refused<R: Alloc<A = Global> + Threads + Sync>(
+    rt: &R,
+    change: Change<'_>,
+    line: &str,
+) -> Result<bool, Fail> {
+    let info = said(rt, &["info", "F"], change)?;
+    let verify = said(rt, &["verify", "F"], change)?;
+    let read = said(rt, &["read", "F", "0", "0"], change)?;
     Ok(info.as_str() == line && verify.as_str() == line && read.as_str() == line)
 }
 
@@ -151,19 +162,20 @@ fn folders_without_a_whole_volume(rt: HostRuntime) -> Result<(), Fail> {
         ),
     ];
     for (change, line) in rows {
-        assert!(rt; is_refused(alloc, change, line)?, "{line}");
+        assert!(rt; is_refused(&rt, change, line)?, "{line}");
     }
     Ok(())
 }
 
 /// Whether each command says this line of the sample with other metadata.
-fn is_refused_by(alloc: Global, first: &str, second: &str, line: &str) -> Result<bool, Fail> {
-    let text = format!(in alloc; "{first}{second}")?;
-    is_refused(
-        alloc,
-        Change::Has("information.turtle", text.as_bytes()),
-        line,
-    )
+fn is_refused_by<R: Alloc<A = Global> + Threads + Sync>(
+    rt: &R,
+    first: &str,
+    second: &str,
+    line: &str,
+) -> Result<bool, Fail> {
+    let text = format!(in rt.alloc(); "{first}{second}")?;
+    is_refused(rt, Change::Has("information.turtle", text.as_bytes()), line)
 }
 
 #[test]
@@ -182,15 +194,19 @@ fn metadata_that_are_refused(rt: HostRuntime) -> Result<(), Fail> {
         ),
     ];
     for (first, second, line) in rows {
-        assert!(rt; is_refused_by(alloc, first, second, line)?, "{line}");
+        assert!(rt; is_refused_by(&rt, first, second, line)?, "{line}");
     }
     Ok(())
 }
 
 /// Whether each command says this line of the sample with other entries.
-fn has_bad_map(alloc: Global, entries: &[Entry], line: &str) -> Result<bool, Fail> {
-    let map = write_entries(alloc, entries).map_err(|_| "no map")?;
-    is_refused(alloc, Change::Has("map", &map), line)
+fn has_bad_map<R: Alloc<A = Global> + Threads + Sync>(
+    rt: &R,
+    entries: &[Entry],
+    line: &str,
+) -> Result<bool, Fail> {
+    let map = write_entries(rt.alloc(), entries).map_err(|_| "no map")?;
+    is_refused(rt, Change::Has("map", &map), line)
 }
 
 fn entry(at: u64, len: u64, target_at: u64, target: u32) -> Entry {
@@ -225,11 +241,11 @@ fn maps_that_are_refused(rt: HostRuntime) -> Result<(), Fail> {
         ),
     ];
     for (entries, line) in rows {
-        assert!(rt; has_bad_map(alloc, entries, line)?, "{line}");
+        assert!(rt; has_bad_map(&rt, entries, line)?, "{line}");
     }
     assert!(rt;
         is_refused(
-            alloc,
+            &rt,
             Change::Has("map", &[0; 27]),
             "8 error volume map ragged 27\n"
         )?
@@ -238,9 +254,14 @@ fn maps_that_are_refused(rt: HostRuntime) -> Result<(), Fail> {
 }
 
 /// Whether a volume with a change is verified with this line, and its bytes around offset 1,024 are read with that one.
-fn is_found(alloc: Global, change: Change<'_>, verified: &str, read: &str) -> Result<bool, Fail> {
-    let found = said(alloc, &["verify", "F"], change)?;
-    let bytes = said(alloc, &["read", "F", "1022", "4"], change)?;
+fn is_found<R: Alloc<A = Global> + Threads + Sync>(
+    rt: &R,
+    change: Change<'_>,
+    verified: &str,
+    read: &str,
+) -> Result<bool, Fail> {
+    let found = said(rt, &["verify", "F"], change)?;
+    let bytes = said(rt, &["read", "F", "1022", "4"], change)?;
     Ok(found.as_str() == verified && bytes.as_str() == read)
 }
 
@@ -302,7 +323,7 @@ fn volumes_that_are_damaged(rt: HostRuntime) -> Result<(), Fail> {
         ),
     ];
     for (change, verified, read) in rows {
-        assert!(rt; is_found(alloc, change, verified, read)?, "{verified}");
+        assert!(rt; is_found(&rt, change, verified, read)?, "{verified}");
     }
     Ok(())
 }
@@ -319,19 +340,14 @@ fn a_folder_or_a_sink_fails(rt: HostRuntime) -> Result<(), Fail> {
     let alloc = rt.alloc();
     let made = sample(alloc, Vec::new(alloc), Change::Nothing)?.calls();
     let mut failing = sample(alloc, next(alloc, made)?, Change::Nothing)?;
-    let folder = told(alloc, &["info", "F"], &mut failing, Vec::new(alloc))?;
+    let folder = told(&rt, &["info", "F"], &mut failing, Vec::new(alloc))?;
     assert_eq!(rt; folder.as_str(), "6 error folder\n");
     // This sink writes nothing where it fails. A fault keeps its status.
     let mut whole = sample(alloc, Vec::new(alloc), Change::Nothing)?;
-    let answer = told(
-        alloc,
-        &["read", "F", "510", "4"],
-        &mut whole,
-        next(alloc, 0)?,
-    )?;
+    let answer = told(&rt, &["read", "F", "510", "4"], &mut whole, next(alloc, 0)?)?;
     assert_eq!(rt; answer.as_str(), "5 ");
     let fault = told(
-        alloc,
+        &rt,
         &["read", "F", "2560", "1"],
         &mut whole,
         next(alloc, 0)?,

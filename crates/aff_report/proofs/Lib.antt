@@ -1,4 +1,16 @@
 pub mod Cuts
+pub mod ExaminerLines
 pub mod Joins
 pub mod Lines
+pub mod PlaceTexts
+pub mod Ranks
+pub mod RunTexts
+pub mod SectorTexts
 pub mod SessionLines
+pub mod SmallReport
+pub mod Splits
+pub mod ToldExaminers
+pub mod ToldHashes
+pub mod ToldPublications
+pub mod ToldReports
+pub mod ToldSessions

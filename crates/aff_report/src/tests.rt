@@ -1,4 +1,4 @@
-use crate::{digest_lines, report};
+use crate::{digest_lines, examiner_lines, report};
 use aff_hash::Linear;
 use aff_model::{Piece, Place};
 use std::alloc::{AllocError, Global};
@@ -135,5 +135,19 @@ fn digests_have_a_line_each(rt: HostRuntime) -> Result<(), Fail> {
         text.as_str(),
         "md5 d41d8cd98f00b204e9800998ecf8427e\nsha1 da39a3ee5e6b4b0d3255bfef95601890afd80709\nsha256 e3b0c44298fc1c149afbf4c8996fb92427ae41e4649b934ca495991b7852b855\nsha512 cf83e1357eefb8bdf1542850d66d8007d620e4050b5715dc83f4a921d36ce9ce47d0d13c5d85f2b0ff8318d2877eec2f63b931bd47417a81a538327af927da3e\n"
     );
+    Ok(())
+}
+
+#[test]
+fn examiners_have_a_line_each(rt: HostRuntime) -> Result<(), Fail> {
+    let alloc = rt.alloc();
+    // The second finding is no text.
+    let findings = vec![in alloc;
+        Vec::from_slice(alloc, b"signatures 3")?,
+        Vec::from_slice(alloc, b"\xff at 512")?,
+    ]?;
+    let text = examiner_lines(alloc, &findings)?;
+    let want = b"examiner 1 signatures 3\nexaminer 2 \xff at 512\n";
+    assert!(rt; text.as_slice() == want.as_slice());
     Ok(())
 }

@@ -1,3 +1,4 @@
+pub mod CoreRun
 pub mod Crews
 pub mod Ends
 pub mod Keeping

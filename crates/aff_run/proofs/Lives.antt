@@ -104,11 +104,11 @@ module _ {R P : Type 0} (tells : Bool) (told : R → List ℕ) (faults : P → �
   }
 
 -- a session that was made has not begun
-pub fresh_made : {R P E : Type 0} (r : Result (Sitting R P) E) (plan : Planned) (claims had : Claiming) (viewer : Option (Beginning R)) (peek : P) (requests : List Request)
-    → IfOk r (λ s. s ≡ record { plan = plan; viewer = viewer; peek = peek; claims = had; requests = requests; answers = []; fault = None }) → had ≡ claims
+pub fresh_made : {R P E : Type 0} (r : Result (Sitting R P) E) (plan : Planned) (claims had : Claiming) (raised : List ℕ) (viewer : Option (Beginning R)) (peek : P) (requests : List Request)
+    → IfOk r (λ s. s ≡ record { plan = plan; viewer = viewer; peek = peek; claims = had; raised = raised; requests = requests; answers = []; fault = None }) → had ≡ claims
     → IfOk r (λ s. (list : ListName) → IfSome viewer (λ v. v.list ≡ list) → IsFresh plan claims list s)
-fresh_made (Err e) plan claims had viewer peek requests is same = tt
-fresh_made {R} {P} (Ok s) plan claims had viewer peek requests is same = λ list of. record {
+fresh_made (Err e) plan claims had raised viewer peek requests is same = tt
+fresh_made {R} {P} (Ok s) plan claims had raised viewer peek requests is same = λ list of. record {
   plan_is = ap (λ (s : Sitting R P). s.plan) is;
   claims_are = ap (λ (s : Sitting R P). s.claims) is ∙ same;
   list_is = subst (λ (v : Option (Beginning R)). IfSome v (λ v. v.list ≡ list)) (sym (ap (λ (s : Sitting R P). s.viewer) is)) of;

@@ -1,4 +1,6 @@
+pub mod Core
 pub mod Devices
 pub mod Ends
+pub mod Laws
 pub mod Sessions
 pub mod Tasks

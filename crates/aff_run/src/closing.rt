@@ -22,10 +22,11 @@ use aff_session::Session;
 use aff_store::Stream;
 use std::alloc::Global;
 use std::sync::{Arc, Wait};
+use std::thread::Threads;
 
 /// Ends the list of a book, and finishes the volume where each extent of the plan is published and no put failed; then the
 /// sessions are answered what is left. `whole` says whether each is. What goes wrong with a session comes behind all else.
-pub(crate) fn close<C: Case, N: Named, F: Folder, W: Wait>(
+pub(crate) fn close<C: Case, N: Named, F: Folder, W: Threads + Wait + Sync>(
     rt: &W,
     alloc: Global,
     volume: &Uuid,
@@ -66,7 +67,7 @@ pub(crate) fn close<C: Case, N: Named, F: Folder, W: Wait>(
         give_back(sessions, peeks);
         return (RunEnd::Memory, folder);
     }
-    match finish_volume::<C, N, F>(alloc, volume, plan, &pieces, &mut stream, &mut folder) {
+    match finish_volume::<C, N, F, W>(rt, alloc, volume, plan, &pieces, &mut stream, &mut folder) {
         Ok(hashes) => {
             let end = answer_all((pieces, hashes), sessions, answers, peeks);
             (end, folder)
@@ -83,7 +84,8 @@ pub(crate) fn close<C: Case, N: Named, F: Folder, W: Wait>(
 }
 
 // Finishes a volume whose extents are all stored.
-fn finish_volume<C: Case, N: Named, F: Folder>(
+fn finish_volume<C: Case, N: Named, F: Folder, W: Threads + Sync>(
+    rt: &W,
     alloc: Global,
     volume: &Uuid,
     plan: &Plan,
@@ -105,7 +107,7 @@ fn finish_volume<C: Case, N: Named, F: Folder>(
         Ok(entries) => entries,
         Err(_) => return Err(FolderError::Memory),
     };
-    match finish(alloc, folder, stream, plan, volume, &entries) {
+    match finish(rt, alloc, folder, stream, plan, volume, &entries) {
         Ok(hashes) => Ok(hashes),
         Err(error) => Err(error),
     }

@@ -11,10 +11,12 @@ mod answering;
 mod closing;
 mod crew;
 mod ending;
+mod laws;
 mod making;
 mod run;
 mod sweep;
 mod tasks;
 
 pub use ending::{Acquired, Run, RunEnd};
+pub use laws::events_are_a_run_of_the_core;
 pub use run::acquire;

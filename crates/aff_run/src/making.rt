@@ -164,6 +164,7 @@ fn sessions_of<C: Case, F: Folder>(
     peeks: &mut Vec<F::Peek>,
 ) -> Result<Vec<Session<C, F>>, Memory>
     requires seat { (seat.old.table ≡ claims.now.table) × (seat.old.view.made ≤ 16) }
+    requires extents { claims.now.table.extents ≡ length plan.now.extents }
     requires script { IsScript plan.now.size script.now }
     requires viewers { All (λ v. v.list.plan ≡ plan.now) viewers.items }
     requires peeks { vec_len peeks.old ≡ length script.now }
@@ -198,6 +199,7 @@ fn session_of<C: Case, F: Folder>(
     wanted: &aff_script::Session,
 ) -> Result<Session<C, F>, Memory>
     requires table { seat.old.table ≡ claims.now.table }
+    requires extents { claims.now.table.extents ≡ length plan.now.extents }
     requires room { seat.old.view.made < 2 ^ 32 - 1 }
     requires viewer { IfSome viewer (λ v. v.list.plan ≡ plan.now) }
     requires wanted { IsSession plan.now.size wanted.now }

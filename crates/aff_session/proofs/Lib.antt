@@ -1,3 +1,4 @@
+mod Demands
 pub mod Growing
 pub mod Histories
 mod Lining

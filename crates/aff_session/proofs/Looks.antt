@@ -39,10 +39,10 @@ grown_self None = refl
 grown_self (Some x) = record { list = refl; longer = prefix_self x.pieces }
 
 pub looked_self : {R P : Type 0} (a : Looking R P) → HasLooked a a
-looked_self a = record { plan = refl; viewer = grown_self a.viewer; claims = refl }
+looked_self a = record { plan = refl; viewer = grown_self a.viewer; claims = refl; raised = λ e c. c }
 
 pub looked_trans : {R P : Type 0} (a b c : Looking R P) → HasLooked a b → HasLooked b c → HasLooked a c
-looked_trans a b c f g = record { plan = g.plan ∙ f.plan; viewer = grown_trans a.viewer b.viewer c.viewer f.viewer g.viewer; claims = g.claims ∙ f.claims }
+looked_trans a b c f g = record { plan = g.plan ∙ f.plan; viewer = grown_trans a.viewer b.viewer c.viewer f.viewer g.viewer; claims = g.claims ∙ f.claims; raised = λ e c. g.raised e (f.raised e c) }
 
 -- who could look can look again
 pub can_look : {R : Type 0} (a b : Option (Beginning R)) → IsSome a → MayHaveGrown a b → IsSome b

@@ -6,6 +6,7 @@ ghost use Rattle.aff_image.specs.Sound.{AreSound};
 ghost use Rattle.aff_script.specs.Script.{IsRequest};
 ghost use Rattle.aff_script.specs.declared.script.Request.{Request};
 ghost use Rattle.aff_session.specs.Answers.{live_of};
+ghost use Rattle.aff_session.specs.Asked.{AreAskedFor, IsAskedFor};
 ghost use Rattle.aff_session.specs.Faults.{IsSessionFault};
 ghost use Rattle.aff_session.specs.Looking.{HasLooked};
 ghost use Rattle.aff_session.specs.Shown.{AreAnsweredBy};
@@ -29,12 +30,14 @@ pub(crate) fn ask_live<C: Case, F: Folder, G: Gate>(
     requests: &[Request],
     answers: &mut Vec<Answer>,
 ) -> Result<(), SessionFault>
+    requires claims { looker.old.claims ≡ claims.now }
     requires viewer { IsSome looker.old.viewer }
     requires requests { All (IsRequest looker.old.plan.size) requests.now }
     requires live { live_of requests.now ≡ requests.now }
     requires none { answers.old.items ≡ [] }
     ensures looked { HasLooked looker.old looker.new }
     ensures answers { OnOk result (IfSome looker.new.viewer (λ v. AreAnsweredBy looker.old.plan F.Receipt.receipt_tells F.Receipt.told v.pieces requests.now answers.new.items)) }
+    ensures asked { OnOk result (AreAskedFor looker.old.plan.extents looker.new.raised requests.now) }
     ensures fault { IfErr result (λ f. IfSome looker.new.viewer (λ v. IsSessionFault looker.old.plan F.Receipt.receipt_tells v.pieces f)) }
     ensures cause { HasCause (F.Peek.peek_faults looker.old.peek) (F.Peek.peek_faults looker.new.peek) (IsErrOf result SessionFault.Failed) }
 {
@@ -54,10 +57,12 @@ fn ask_one<C: Case, F: Folder, G: Gate>(
     request: Request,
     answers: &mut Vec<Answer>,
 ) -> Result<(), SessionFault>
+    requires claims { looker.old.claims ≡ claims.now }
     requires viewer { IsSome looker.old.viewer }
     requires request { IsRequest looker.old.plan.size request }
     ensures looked { HasLooked looker.old looker.new }
     ensures answers { OnOk result (IfSome looker.new.viewer (λ v. (done : List Request) → AreAnsweredBy looker.old.plan F.Receipt.receipt_tells F.Receipt.told v.pieces done answers.old.items → AreAnsweredBy looker.old.plan F.Receipt.receipt_tells F.Receipt.told v.pieces (done ++ request ∷ []) answers.new.items)) }
+    ensures asked { OnOk result (IsAskedFor looker.old.plan.extents looker.new.raised request) }
     ensures fault { IfErr result (λ f. IfSome looker.new.viewer (λ v. IsSessionFault looker.old.plan F.Receipt.receipt_tells v.pieces f)) }
     ensures cause { HasCause (F.Peek.peek_faults looker.old.peek) (F.Peek.peek_faults looker.new.peek) (IsErrOf result SessionFault.Failed) }
 {
@@ -67,7 +72,11 @@ fn ask_one<C: Case, F: Folder, G: Gate>(
             keep(answers, answer)
         }
         Request::Await(count) => looker.wait(claims, running, count),
-        Request::Raise { .. } | Request::After => Ok(()),
+        Request::Raise { at, len } => {
+            looker.raise(claims, at, len);
+            Ok(())
+        }
+        Request::After => Ok(()),
     }
 }
 

@@ -1,5 +1,5 @@
 //! Who looks: an analyst with its pass, and room for what a read gives.
-ghost use Rattle.std.specs.Prelude.{◌≡◌, ◌≤◌, None, Some, [], length, map, IfErr, IfOk, IfSome, IsErrOf, IsSome, IsTrue, OnOk, is_some};
+ghost use Rattle.std.specs.Prelude.{◌≡◌, ◌≤◌, ◌+◌, ℕ, Contains, None, Some, [], length, map, IfErr, IfOk, IfSome, IsErrOf, IsSome, IsTrue, OnOk, is_some};
 ghost use Rattle.std.specs.Arc.{arc_value};
 ghost use mathlib.Core.List.{IsPrefix};
 ghost use Rattle.aff_model.specs.Causes.{HasCause};
@@ -8,6 +8,7 @@ ghost use Rattle.aff_image.specs.Sound.{AreSound};
 ghost use Rattle.aff_snapshot.specs.Lists.{HasEvery};
 ghost use Rattle.aff_analyst.specs.Answers.{IsReadBy};
 ghost use Rattle.aff_analyst.specs.Faults.{MayRead};
+ghost use Rattle.aff_analyst.specs.Raised.{Shares};
 ghost use Rattle.aff_session.specs.Faults.{IsSessionFault};
 ghost use Rattle.aff_session.specs.Lines.{AreLinesOf};
 ghost use Rattle.aff_session.specs.Looking.{HasLooked, IsWholeAnswer, Looking};
@@ -38,15 +39,15 @@ pub(crate) struct Looker<C: Case, F: Folder> {
 }
 
 impl<C: Case, F: Folder> Model for Looker<C, F> {
-    ghost use Rattle.std.specs.Prelude.{◌<◌, ◌≤◌, ◌^◌, length};
+    ghost use Rattle.std.specs.Prelude.{◌≡◌, ◌<◌, ◌≤◌, ◌^◌, length};
     ghost use Rattle.aff_model.specs.declared.limits.TheConstants as limits;
     ghost use Rattle.aff_session.specs.Looking.{Looking};
 
     ghost Value = { Looking F.Receipt F.Peek };
 
-    ghost view = { λ l. record { plan = l.analyst.plan; viewer = l.analyst.viewer; peek = l.analyst.peek; claims = l.pass.claims; bytes = l.bytes.items; runs = l.runs } };
+    ghost view = { λ l. record { plan = l.analyst.plan; viewer = l.analyst.viewer; peek = l.analyst.peek; claims = l.pass.claims; raised = l.pass.view.raised; bytes = l.bytes.items; runs = l.runs } };
 
-    ghost invariant = { λ l. (limits.MAX_READ ≤ length l.bytes.items) × (l.analyst.plan.size < 2 ^ 64) };
+    ghost invariant = { λ l. (limits.MAX_READ ≤ length l.bytes.items) × (l.analyst.plan.size < 2 ^ 64) × (l.pass.claims.table.extents ≡ length l.analyst.plan.extents) };
 }
 
 impl<C: Case, F: Folder> Looker<C, F> {
@@ -58,11 +59,12 @@ impl<C: Case, F: Folder> Looker<C, F> {
         plan: &Plan,
         pass: Pass,
     ) -> Result<Looker<C, F>, Memory>
-        requires { IfSome viewer (λ v. v.list.plan ≡ plan.now) }
+        requires viewer { IfSome viewer (λ v. v.list.plan ≡ plan.now) }
+        requires extents { pass.claims.table.extents ≡ length plan.now.extents }
         ensures plan { IfOk result (λ l. l.plan ≡ plan.now) }
         ensures viewer { IfOk result (λ l. l.viewer ≡ viewer) }
         ensures peek { IfOk result (λ l. l.peek ≡ peek) }
-        ensures claims { IfOk result (λ l. l.claims ≡ pass.claims) }
+        ensures claims { IfOk result (λ l. (l.claims ≡ pass.claims) × (l.raised ≡ pass.view.raised)) }
     {
         // a size of 64 bits
         let _size = plan.size();
@@ -101,6 +103,7 @@ impl<C: Case, F: Folder> Looker<C, F> {
 
     // Looks once, and reads a range by what is published then; answers the front.
     fn look(&mut self, claims: &Claims, at: u64, len: u64) -> Result<u64, SessionFault>
+        requires claims { self.old.claims ≡ claims.now }
         requires viewer { IsSome self.old.viewer }
         requires range { MayRead self.old.plan.size at len }
         ensures looked { HasLooked self.old self.new }
@@ -117,6 +120,18 @@ impl<C: Case, F: Folder> Looker<C, F> {
             Ok(front) => Ok(front),
             Err(error) => Err(fault_of(error)),
         }
+    }
+
+    // Asks for each extent that shares a byte with a range.
+    pub(crate) fn raise(&mut self, claims: &Claims, at: u64, len: u64)
+        requires claims { self.old.claims ≡ claims.now }
+        requires range { at + len ≤ self.old.plan.size }
+        ensures looked { HasLooked self.old self.new }
+        ensures viewer { self.new.viewer ≡ self.old.viewer }
+        ensures peek { self.new.peek ≡ self.old.peek }
+        ensures asked { (e : ℕ) → Shares self.old.plan.extents at len e → Contains self.new.raised e }
+    {
+        self.analyst.raise(claims, &mut self.pass, at, len);
     }
 
     // Reads a range by given pieces.
@@ -170,6 +185,7 @@ impl<C: Case, F: Folder> Looker<C, F> {
         at: u64,
         len: u64,
     ) -> Result<Answer, SessionFault>
+        requires claims { self.old.claims ≡ claims.now }
         requires viewer { IsSome self.old.viewer }
         requires range { MayRead self.old.plan.size at len }
         ensures looked { HasLooked self.old self.new }
@@ -215,6 +231,7 @@ impl<C: Case, F: Folder> Looker<C, F> {
         running: &Running,
         count: u64,
     ) -> Result<(), SessionFault>
+        requires claims { self.old.claims ≡ claims.now }
         requires viewer { IsSome self.old.viewer }
         ensures looked { HasLooked self.old self.new }
         ensures fault { IfErr result (λ f. IfSome self.new.viewer (λ v. IsSessionFault self.old.plan F.Receipt.receipt_tells v.pieces f)) }

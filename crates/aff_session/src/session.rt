@@ -1,11 +1,13 @@
 //! The session.
-ghost use Rattle.std.specs.Prelude.{◌≡◌, ◌⊎◌, [], None, Some, map, IfOk, IfSome, MatchOption};
+ghost use Rattle.std.specs.Prelude.{◌≡◌, ◌⊎◌, [], None, Some, length, map, IfOk, IfSome, IsSome, MatchOption};
 ghost use Rattle.std.specs.Arc.{arc_value};
 ghost use mathlib.Core.List.{IsPrefix};
 ghost use Rattle.aff_model.specs.Causes.{HasCause};
 ghost use Rattle.aff_image.specs.Sound.{AreSound};
 ghost use Rattle.aff_snapshot.specs.Lists.{HasEvery};
 ghost use Rattle.aff_script.specs.Script.{IsSession};
+ghost use Rattle.aff_session.specs.Answers.{live_of};
+ghost use Rattle.aff_session.specs.Asked.{AreAskedFor};
 ghost use Rattle.aff_session.specs.Faults.{IsSessionFault};
 ghost use Rattle.aff_session.specs.Shown.{AreAnsweredBy, AreLive};
 ghost use Rattle.aff_session.specs.Sittings.{HasSat, IsSameButFault, Sitting};
@@ -38,7 +40,7 @@ impl<C: Case, F: Folder> Model for Session<C, F> {
 
     ghost Value = { Sitting F.Receipt F.Peek };
 
-    ghost view = { λ s. record { plan = s.looker.plan; viewer = s.looker.viewer; peek = s.looker.peek; claims = s.looker.claims; requests = s.requests.items; answers = s.answers.items; fault = s.fault } };
+    ghost view = { λ s. record { plan = s.looker.plan; viewer = s.looker.viewer; peek = s.looker.peek; claims = s.looker.claims; raised = s.looker.raised; requests = s.requests.items; answers = s.answers.items; fault = s.fault } };
 
     // what it asks may be asked of the plan's device
     ghost invariant = { λ s. IsSession s.looker.plan.size s.requests.items };
@@ -63,8 +65,9 @@ impl<C: Case, F: Folder> Session<C, F> {
         requests: &[Request],
     ) -> Result<Session<C, F>, Memory>
         requires viewer { IfSome viewer (λ v. v.list.plan ≡ plan.now) }
+        requires extents { pass.claims.table.extents ≡ length plan.now.extents }
         requires requests { IsSession plan.now.size requests.now }
-        ensures { IfOk result (λ s. s ≡ record { plan = plan.now; viewer = viewer; peek = peek; claims = pass.claims; requests = requests.now; answers = []; fault = None }) }
+        ensures { IfOk result (λ s. s ≡ record { plan = plan.now; viewer = viewer; peek = peek; claims = pass.claims; raised = pass.view.raised; requests = requests.now; answers = []; fault = None }) }
     {
         let Ok(requests) = requests.to_vec(alloc) else {
             return Err(Memory);
@@ -83,13 +86,14 @@ impl<C: Case, F: Folder> Session<C, F> {
 
     /// Asks what stands before `after`, while workers go on: before each read the gate is told that session `number` asks,
     /// and behind it at which front it was answered. `await` looks until so many publications are seen, no worker runs, or it
-    /// has looked `TURNS` times in vain; `raise` does nothing yet. Without a viewer nothing is asked. It waits for nobody but
-    /// the gate.
+    /// has looked `TURNS` times in vain; `raise` asks for the extents of its range. Without a viewer nothing is asked. It waits
+    /// for nobody but the gate.
     pub fn live<G: Gate>(&mut self, claims: &Claims, running: &Running, gate: &G, number: u32)
         requires claims { self.old.claims ≡ claims.now }
         requires fresh { (self.old.answers ≡ []) × (self.old.fault ≡ None) }
         ensures kept { HasSat self.old self.new }
         ensures answers { self.new.fault ≡ None → AreLive self.old.plan F.Receipt.receipt_tells F.Receipt.told self.new.viewer self.old.requests self.new.answers }
+        ensures asked { self.new.fault ≡ None → IsSome self.old.viewer → AreAskedFor self.old.plan.extents self.new.raised (live_of self.old.requests) }
         ensures fault { IfSome self.new.fault (λ f. MatchOption self.new.viewer ⊥ (λ v. IsSessionFault self.old.plan F.Receipt.receipt_tells v.pieces f)) }
         ensures cause { HasCause (F.Peek.peek_faults self.old.peek) (F.Peek.peek_faults self.new.peek) (self.new.fault ≡ Some SessionFault.Failed) }
     {

@@ -106,8 +106,8 @@ fn run_over_devices<
 }
 
 // Asks the finished volume of a folder, and hands all else back.
-fn run_over_volume<F: Folder, K: Sink>(
-    alloc: Global,
+fn run_over_volume<F: Folder, K: Sink, W: Alloc<A = Global> + Threads + Sync>(
+    rt: &W,
     words: &[&str],
     devices: Vec<Box<dyn Device>>,
     examiners: Vec<Box<dyn Examiner>>,
@@ -119,13 +119,13 @@ fn run_over_volume<F: Folder, K: Sink>(
     ensures examiners { result.examiners.items ≡ examiners.items }
 {
     let mut folder = folder;
-    let status = run_offline(alloc, words, &mut folder, sink);
+    let status = run_offline(rt, rt.alloc(), words, &mut folder, sink);
     End {
         status,
         devices,
         examiners,
         folder,
-        peeks: Vec::new(alloc),
+        peeks: Vec::new(rt.alloc()),
     }
 }
 
@@ -173,7 +173,7 @@ pub fn run_words<
     ensures examiners { result.examiners.items ≡ examiners.items }
 {
     match offline(words) {
-        Some(_) => run_over_volume(rt.alloc(), words, devices, examiners, folder, sink),
+        Some(_) => run_over_volume(rt, words, devices, examiners, folder, sink),
         None => run_over_devices::<C, F, S, K, G, W>(
             rt, words, devices, examiners, folder, source, sink, gate,
         ),

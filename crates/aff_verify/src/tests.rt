@@ -7,8 +7,9 @@ use aff_fields::{Entry, Point, write_entries, write_points};
 use aff_hash::{ChunkSums, chunk_sums};
 use aff_memory::MemoryFolder;
 use aff_outside::Folder;
-use std::alloc::{AllocError, Global};
+use std::alloc::{Alloc, AllocError, Global};
 use std::test::Fail;
+use std::thread::Threads;
 
 /// What is done to a segment of the sample, which is named by its last word.
 #[derive(Clone, Copy)]
@@ -129,9 +130,13 @@ fn sample(alloc: Global, fail: Vec<u64>, change: Change<'_>) -> Result<MemoryFol
 }
 
 /// What is said of the sample with a change.
-fn verdict(alloc: Global, change: Change<'_>) -> Result<String, Fail> {
+fn verdict<R: Alloc<A = Global> + Threads + Sync>(
+    rt: &R,
+    change: Change<'_>,
+) -> Result<String, Fail> {
+    let alloc = rt.alloc();
     let mut folder = sample(alloc, Vec::new(alloc), change)?;
-    match verify(alloc, &mut folder) {
+    match verify(rt, alloc, &mut folder) {
         Ok(Verdict::Sound) => Ok(String::from_str(alloc, "sound")?),
         Ok(Verdict::Unsound(Finding::Block { kind, chunk, .. })) => {
             Ok(format!(in alloc; "block {kind:?} {chunk}")?)
@@ -145,21 +150,25 @@ fn verdict(alloc: Global, change: Change<'_>) -> Result<String, Fail> {
 }
 
 /// The sample with a change is found to be this.
-fn is_found(alloc: Global, change: Change<'_>, expected: &str) -> Result<(), Fail> {
-    if verdict(alloc, change)?.as_str() != expected {
+fn is_found<R: Alloc<A = Global> + Threads + Sync>(
+    rt: &R,
+    change: Change<'_>,
+    expected: &str,
+) -> Result<(), Fail> {
+    if verdict(rt, change)?.as_str() != expected {
         return Err("another verdict")?;
     }
     Ok(())
 }
 
 /// The sample with other bytes in a segment is found to be this.
-fn is_found_with<'a>(
-    alloc: Global,
+fn is_found_with<'a, R: Alloc<A = Global> + Threads + Sync>(
+    rt: &R,
     last: &'a str,
     bytes: &'a [u8],
     expected: &str,
 ) -> Result<(), Fail> {
-    is_found(alloc, Change::Has(last, bytes), expected)
+    is_found(rt, Change::Has(last, bytes), expected)
 }
 
 #[test]
@@ -172,16 +181,11 @@ fn block_hashes_are_compared_first(rt: HostRuntime) -> Result<(), Fail> {
     let md5 = pair(alloc, &second.md5, &second.md5)?;
     let sha1 = pair(alloc, &first.sha1, &first.sha1)?;
     let sha256 = pair(alloc, &first.sha256, &first.sha256)?;
-    is_found_with(alloc, "00000000", &changed, "block Md5 1")?;
-    is_found_with(alloc, "00000000.blockHash.md5", &md5, "block Md5 0")?;
-    is_found_with(alloc, "00000000.blockHash.sha1", &sha1, "block Sha1 1")?;
-    is_found_with(
-        alloc,
-        "00000000.blockHash.sha256",
-        &sha256,
-        "block Sha256 1",
-    )?;
-    is_found(alloc, Change::Without("00000000"), "Stream(NoSegment(0))")
+    is_found_with(&rt, "00000000", &changed, "block Md5 1")?;
+    is_found_with(&rt, "00000000.blockHash.md5", &md5, "block Md5 0")?;
+    is_found_with(&rt, "00000000.blockHash.sha1", &sha1, "block Sha1 1")?;
+    is_found_with(&rt, "00000000.blockHash.sha256", &sha256, "block Sha256 1")?;
+    is_found(&rt, Change::Without("00000000"), "Stream(NoSegment(0))")
 }
 
 /// An image without its last stored run has other bytes, and one whose targets stand in another order has another map.
@@ -190,8 +194,8 @@ fn hashes_of_the_image_are_compared_behind_them(rt: HostRuntime) -> Result<(), F
     let alloc = rt.alloc();
     let map = write_entries(alloc, &ENTRIES[..2]).map_err(|_| "no map")?;
     let idx = format!(in alloc; "{IDX}http://aff4.org/Schema#UnknownData")?;
-    is_found(alloc, Change::Nothing, "sound")?;
-    is_found_with(alloc, "information.turtle", RESPELLED.as_bytes(), "sound")?;
-    is_found_with(alloc, "map", &map, "linear Md5")?;
-    is_found_with(alloc, "idx", idx.as_bytes(), "blockmap")
+    is_found(&rt, Change::Nothing, "sound")?;
+    is_found_with(&rt, "information.turtle", RESPELLED.as_bytes(), "sound")?;
+    is_found_with(&rt, "map", &map, "linear Md5")?;
+    is_found_with(&rt, "idx", idx.as_bytes(), "blockmap")
 }

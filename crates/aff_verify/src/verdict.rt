@@ -13,12 +13,17 @@ use aff_model::CHUNK;
 use aff_outside::{Folder, FolderError};
 use aff_volume::{Difference, Volume, VolumeError};
 use std::alloc::Global;
+use std::thread::Threads;
 
 /// Opens the volume of a folder and compares what it records with what it holds: each chunk from 0 with its block hashes,
 /// MD5 first, then SHA-1, then SHA-256; then the four linear hashes; then the block map hash. The first that differs is
 /// answered, with both digests. It reads each chunk once for its block hashes and once for the linear hashes, in memory that
 /// does not grow with the stream. What the folder holds stays, whatever the answer.
-pub fn verify<F: Folder>(alloc: Global, folder: &mut F) -> Result<Verdict, VolumeError>
+pub fn verify<R: Threads + Sync, F: Folder>(
+    rt: &R,
+    alloc: Global,
+    folder: &mut F,
+) -> Result<Verdict, VolumeError>
     ensures verdict { IfOk result (λ verdict. IsTrue F.tells → (v : Opened) × IsVolumeOf (F.held folder.old) v × IsVerdict (F.held folder.old) v.info verdict) }
     ensures refused { IfErr result (λ e. IsTrue F.tells → IsVolumeRefused (F.held folder.old) e) }
 
@@ -32,7 +37,7 @@ pub fn verify<F: Folder>(alloc: Global, folder: &mut F) -> Result<Verdict, Volum
         Ok(volume) => volume,
         Err(error) => return Err(error),
     };
-    match verdict_on(alloc, folder, &volume) {
+    match verdict_on(rt, alloc, folder, &volume) {
         Ok(verdict) => Ok(verdict),
         Err(FolderError::Failed) => Err(VolumeError::Failed),
         Err(FolderError::Memory) => Err(VolumeError::Memory),
@@ -40,7 +45,8 @@ pub fn verify<F: Folder>(alloc: Global, folder: &mut F) -> Result<Verdict, Volum
 }
 
 // The verdict on an opened volume.
-fn verdict_on<F: Folder>(
+fn verdict_on<R: Threads + Sync, F: Folder>(
+    rt: &R,
     alloc: Global,
     folder: &mut F,
     volume: &Volume,
@@ -56,7 +62,7 @@ fn verdict_on<F: Folder>(
         Err(error) => return Err(error),
     }
     let info = volume.info();
-    let linear = match volume.linear(alloc, folder) {
+    let linear = match volume.linear(rt, alloc, folder) {
         Ok(linear) => linear,
         Err(error) => return Err(error),
     };

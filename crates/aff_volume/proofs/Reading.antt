@@ -39,16 +39,21 @@ put_in filled n out new j low in_new =
     ∙ get_or-append new (post_of filled n out) 0 j in_new
 
 module _ (held : Held) (v : Volume) (at filled n count : ℕ) (out new : List ℕ) (low : filled ≤ length out) (few : count ≤ length new) where
+  -- what a first piece has, and behind it the next one
+  pub more_are : ((k : ℕ) → k < filled → volume_byte held v (at + k) ≡ Some (get_or out k 0)) → ((k : ℕ) → k < count → volume_byte held v (at + filled + k) ≡ Some (get_or new k 0))
+      → (k : ℕ) → k < filled + count → volume_byte held v (at + k) ≡ Some (get_or (put_mid filled n out new) k 0)
+  more_are before piece k below = elim (cases_lt k filled) [
+    | inl earlier ↦ before k earlier ∙ ap Some (sym (put_before filled n out new k low earlier))
+    | inr here ↦
+        let place : k ≡ filled + (k - filled) = omega (arith, here) in
+        let byte : at + k ≡ at + filled + (k - filled) = omega (arith, here) in
+        ap (volume_byte held v) byte ∙ piece (k - filled) (omega (arith, here, below))
+        ∙ ap Some (sym (put_in filled n out new (k - filled) low (omega (arith, here, below, few))) ∙ ap (λ m. get_or (put_mid filled n out new) m 0) (sym place))
+  ]
+
   pub more_bytes : AreFirst held v at filled out → AreFirst held v (at + filled) count new → AreFirst held v at (filled + count) (put_mid filled n out new)
   more_bytes before piece = record {
-    are = λ k below. elim (cases_lt k filled) [
-      | inl earlier ↦ before.are k earlier ∙ ap Some (sym (put_before filled n out new k low earlier))
-      | inr here ↦
-          let place : k ≡ filled + (k - filled) = omega (arith, here) in
-          let byte : at + k ≡ at + filled + (k - filled) = omega (arith, here) in
-          ap (volume_byte held v) byte ∙ piece.are (k - filled) (omega (arith, here, below))
-          ∙ ap Some (sym (put_in filled n out new (k - filled) low (omega (arith, here, below, few))) ∙ ap (λ m. get_or (put_mid filled n out new) m 0) (sym place))
-    ];
+    are = more_are before.are piece.are;
     sound = λ k below. elim (cases_lt k filled) [
       | inl earlier ↦ before.sound k earlier
       | inr here ↦

@@ -16,12 +16,15 @@ use aff_info::Info;
 use aff_map::{Map, Target};
 use aff_outside::{Folder, FolderError};
 use std::alloc::Global;
+use std::thread::Threads;
 
-// How many bytes are read and hashed at a time.
+// How many bytes are read and hashed at a time, by threads of which each is begun anew.
 const PIECE_LEN: usize = 1_048_576;
 
-/// The digests of all bytes of the image, one after another. Nothing is kept of the bytes but one piece of 1 MiB.
-pub(crate) fn hash_image<F: Folder>(
+/// The digests of all bytes of the image, one after another. Nothing is kept of the bytes but one piece of 1 MiB,
+/// whose four digests are taken side by side.
+pub(crate) fn hash_image<R: Threads + Sync, F: Folder>(
+    rt: &R,
     alloc: Global,
     folder: &mut F,
     info: &Info,
@@ -41,14 +44,15 @@ pub(crate) fn hash_image<F: Folder>(
         return Err(FolderError::Memory);
     };
     let mut linear = Linear::new();
-    match feed_image(folder, info, map, reader, &mut buffer, &mut linear) {
+    match feed_image(rt, folder, info, map, reader, &mut buffer, &mut linear) {
         Ok(()) => Ok(linear.finish()),
         Err(error) => Err(error),
     }
 }
 
 // Feeds all bytes of the image.
-fn feed_image<F: Folder>(
+fn feed_image<R: Threads + Sync, F: Folder>(
+    rt: &R,
     folder: &mut F,
     info: &Info,
     map: &Map,
@@ -67,15 +71,48 @@ fn feed_image<F: Folder>(
 {
     let mut at = 0;
     while at < info.image_size {
-        match fill_piece(folder, info, map, reader, at, buffer) {
+        match fill_buffer(folder, info, map, reader, at, buffer) {
             Ok(count) => {
-                linear.update(&buffer[..count]);
+                linear.update_beside(rt, &buffer[..count]);
                 at += count as u64;
             }
             Err(error) => return Err(error),
         }
     }
     Ok(())
+}
+
+// Fills a buffer with the bytes of the image from an offset on, as far as both go, and answers how many there are.
+fn fill_buffer<F: Folder>(
+    folder: &mut F,
+    info: &Info,
+    map: &Map,
+    reader: &StreamReader,
+    at: u64,
+    buffer: &mut [u8],
+) -> Result<usize, FolderError>
+    requires room { 0 < length buffer.old }
+    requires fit { IsFit info.now }
+    requires over { IsOver map.now info.now }
+    requires reads { Reads reader.now info.now }
+    requires inside { at < info.now.image_size }
+    requires there { IsTrue F.tells → IsMapped (F.held folder.old) info.now map.now }
+    ensures some { IfOk result (λ count. 0 < count) }
+    ensures few { IfOk result (λ count. count ≤ length buffer.old) }
+    ensures inside { IfOk result (λ count. at + count ≤ info.now.image_size) }
+    ensures bytes { IfOk result (λ count. IsTrue F.tells → (k : ℕ) → k < count → volume_byte (F.held folder.old) (named_by info.now) (at + k) ≡ Some (slice_index buffer.new k)) }
+    ensures same { IsTrue F.tells → F.held folder.new ≡ F.held folder.old }
+    ensures cause { HasCause (F.folder_faults folder.old) (F.folder_faults folder.new) (IsErrOf result FolderError.Failed) }
+{
+    let mut filled = 0;
+    while filled < buffer.len() && at + (filled as u64) < info.image_size {
+        let rest = &mut buffer[filled..];
+        match fill_piece(folder, info, map, reader, at + filled as u64, rest) {
+            Ok(count) => filled += count,
+            Err(error) => return Err(error),
+        }
+    }
+    Ok(filled)
 }
 
 // Fills a first piece of a buffer with the bytes of the image from an offset on, at most up to where a run of the map ends,

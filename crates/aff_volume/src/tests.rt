@@ -8,8 +8,9 @@ use aff_fields::{Entry, Point, write_entries, write_points};
 use aff_hash::{ChunkSums, Digest, Hash, chunk_sums, digest};
 use aff_memory::MemoryFolder;
 use aff_outside::Folder;
-use std::alloc::{AllocError, Global};
+use std::alloc::{Alloc, AllocError, Global};
 use std::test::Fail;
+use std::thread::Threads;
 
 /// What is done to a segment of the sample, which is named by its last word.
 #[derive(Clone, Copy)]
@@ -345,11 +346,15 @@ fn each_call_fails_once(rt: HostRuntime) -> Result<(), Fail> {
 }
 
 /// Whether the linear hashes and the block map hash of a folder are the recorded ones.
-fn agreement<F: Folder>(alloc: Global, folder: &mut F) -> Result<(bool, bool), Fail> {
+fn agreement<F: Folder, R: Alloc<A = Global> + Threads + Sync>(
+    rt: &R,
+    folder: &mut F,
+) -> Result<(bool, bool), Fail> {
+    let alloc = rt.alloc();
     let Ok(volume) = Volume::open(alloc, folder) else {
         return Err("not opened")?;
     };
-    let Ok(linear) = volume.linear(alloc, folder) else {
+    let Ok(linear) = volume.linear(rt, alloc, folder) else {
         return Err("no linear hashes")?;
     };
     let Ok(block_map) = volume.block_map(alloc, folder) else {
@@ -371,7 +376,7 @@ fn digests_are_those_of_another_program(rt: HostRuntime) -> Result<(), Fail> {
     ];
     for (change, expected) in rows {
         let mut folder = sample(alloc, Vec::new(alloc), change)?;
-        assert_eq!(rt; agreement(alloc, &mut folder)?, expected);
+        assert_eq!(rt; agreement(&rt, &mut folder)?, expected);
     }
     Ok(())
 }

@@ -35,6 +35,7 @@ use aff_model::CHUNK;
 use aff_outside::{Folder, FolderError, Segment};
 use std::alloc::Global;
 use std::marker::Model;
+use std::thread::Threads;
 
 /// A volume that was found whole in a folder. It keeps the metadata and the map; all else is read from the folder when it
 /// is asked for.
@@ -103,15 +104,21 @@ impl Volume {
     }
 
     /// The digests of all bytes of the image, one after another, from the folder as it was when the volume was opened. No
-    /// block hash is looked at. Memory is one piece of 1 MiB.
-    pub fn linear<F: Folder>(&self, alloc: Global, folder: &mut F) -> Result<Digests, FolderError>
+    /// block hash is looked at. The four are taken side by side, each
+    /// in a thread of its own. Memory is one piece of 1 MiB.
+    pub fn linear<R: Threads + Sync, F: Folder>(
+        &self,
+        rt: &R,
+        alloc: Global,
+        folder: &mut F,
+    ) -> Result<Digests, FolderError>
         requires { IsTrue F.tells → IsVolumeOf (F.held folder.old) self.now }
         ensures linear { IfOk result (λ digests. (hashed : List ℕ) × AreDigestsOf digests hashed
             × (IsTrue F.tells → hashed ≡ volume_bytes (F.held folder.old) (named_by self.now.info) self.now.info.image_size)) }
         ensures same { IsTrue F.tells → F.held folder.new ≡ F.held folder.old }
         ensures cause { HasCause (F.folder_faults folder.old) (F.folder_faults folder.new) (IsErrOf result FolderError.Failed) }
     {
-        hash_image(alloc, folder, &self.info, &self.map, &self.reader)
+        hash_image(rt, alloc, folder, &self.info, &self.map, &self.reader)
     }
 
     /// The block map hash, from the block hashes, the map and the list of its targets as they stand, in the folder as it was

@@ -20,11 +20,10 @@ loop-entry-preserved g c =
     record {
       between = between_ended c.args.size image.chunks entries image.runs k e below is;
       inside = (image.runs.each k none below).inside;
-      room = omega (arith, c.feed_entry.auto.buffer, c.feed_symbols.auto.buffer, i.room);
       fed = λ told.
-          run_fed c.args.size image.chunks entries image.runs k e below is held c.args.stream.now c.loop-entry.at c.args.linear.now c.loop-entry.linear c.feed_symbols.new.linear c.feed_entry.new.linear
+          run_fed c.args.size image.chunks entries image.runs k e below is held c.args.stream.now c.loop-entry.at c.args.feeder.now c.loop-entry.feeder c.feed_symbols.new.feeder c.feed_entry.new.feeder
           i.between low (i.fed told) c.feed_symbols.ensures
-          (c.in-Ok.ensures.fed told ∙ ap (λ h. c.feed_symbols.new.linear ++ run_bytes h c.args.stream.now e) (i.same told));
+          (c.in-Ok.ensures.fed told ∙ ap (λ h. c.feed_symbols.new.feeder ++ run_bytes h c.args.stream.now e) (i.same told));
       same = λ told. c.in-Ok.ensures.same told ∙ i.same told;
       later = omega (arith, c.in-Ok.ensures.cause.later, i.later);
     }

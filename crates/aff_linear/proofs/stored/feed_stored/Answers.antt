@@ -10,9 +10,8 @@ loop-done-preserved g c =
     let before = g.F.Folder.held c.loop-done.folder in
     record {
       low = omega (arith, c.in-Ok.ensures.few, c.loop-done-test.true);
-      room = omega (arith, c.feed_piece.auto.buffer, c.loop-done.invariant.room);
       fed = λ told.
-          fed_more (λ j. unwrap_or (stream_byte held c.args.stream.now j) 0) c.args.at c.loop-done.done c.in-Ok.count c.args.linear.now c.loop-done.linear c.feed_piece.new.linear
+          fed_more (λ j. unwrap_or (stream_byte held c.args.stream.now j) 0) c.args.at c.loop-done.done c.in-Ok.count c.args.feeder.now c.loop-done.feeder c.feed_piece.new.feeder
           (stream_bytes before c.args.stream.now (c.args.at + c.loop-done.done) c.in-Ok.count)
           (c.loop-done.invariant.fed told) (c.in-Ok.ensures.fed told)
           (ap (λ h. stream_bytes h c.args.stream.now (c.args.at + c.loop-done.done) c.in-Ok.count) (c.loop-done.invariant.same told));

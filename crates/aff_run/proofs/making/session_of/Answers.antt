@@ -10,4 +10,4 @@ pub returns-clause-made : goal.returns-clause-made
 returns-clause-made g c = omega (arith, ap (λ (b : BookView). b.made) c.in_ok-pass.ensures.made)
 
 pub returns-clause-session : goal.returns-clause-session
-returns-clause-session g c = fresh_made c.new.result c.args.plan.now c.args.claims.now _ c.args.viewer _ _ c.new.ensures c.in_ok-pass.ensures.pass.0
+returns-clause-session g c = fresh_made c.new.result c.args.plan.now c.args.claims.now _ _ c.args.viewer _ _ c.new.ensures c.in_ok-pass.ensures.pass.0

@@ -1,4 +1,4 @@
-use Rattle.std.proofs.Common.{◌≡◌, List, [], ◌∷◌, ◌++◌, IfSome, ⊎_elim}
+use Rattle.std.proofs.Common.{◌≡◌, List, [], ◌∷◌, ◌++◌, IfSome}
 use Rattle.aff_script.specs.declared.script.Request.{Request}
 use Rattle.aff_session.specs.Looking.{IsWholeAnswer}
 use Rattle.aff_session.specs.Shown.{AreAnsweredBy}
@@ -37,7 +37,17 @@ returns-in-Raise-clause-answers g c =
     let plan = c.args.looker.now.plan in
     let tells = g.F.Receipt.Telling.receipt_tells in
     let told = g.F.Receipt.Telling.told in
+    let viewer = c.raise.new.self.viewer in
+    let olds = c.args.answers.now.items in
+    any_viewer viewer (λ v. (done : List Request) → AreAnsweredBy plan tells told v.pieces done olds → AreAnsweredBy plan tells told v.pieces (done ++ c.args.request ∷ []) olds)
+    (λ v. keeps_raise plan tells told v.pieces c.args.request olds (c.in-Raise.at, c.in-Raise.len, c.in-Raise.is))
+
+pub returns-in-After-clause-answers : goal.returns-in-After-clause-answers
+returns-in-After-clause-answers g c =
+    let plan = c.args.looker.now.plan in
+    let tells = g.F.Receipt.Telling.receipt_tells in
+    let told = g.F.Receipt.Telling.told in
     let viewer = c.args.looker.now.viewer in
     let olds = c.args.answers.now.items in
     any_viewer viewer (λ v. (done : List Request) → AreAnsweredBy plan tells told v.pieces done olds → AreAnsweredBy plan tells told v.pieces (done ++ c.args.request ∷ []) olds)
-    (λ v. ⊎_elim (λ raise. keeps_raise plan tells told v.pieces c.args.request olds raise) (λ after. keeps_after plan tells told v.pieces c.args.request olds after) c.in-Raise.is)
+    (λ v. keeps_after plan tells told v.pieces c.args.request olds c.in-After.is)

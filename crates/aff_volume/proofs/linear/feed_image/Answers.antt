@@ -10,11 +10,11 @@ loop-at-preserved g c =
     let v = named_by c.args.info.now in
     record {
       low = c.in-Ok.ensures.inside;
-      room = omega (arith, c.fill_piece.auto.buffer, i.room);
+      room = omega (arith, c.fill_buffer.auto.buffer, i.room);
       fed = λ t.
-          more_of_image (g.F.Folder.held c.args.folder.now) v c.args.linear.now c.loop-at.linear c.update.new.self c.fill_piece.new.buffer c.loop-at.at c.in-Ok.count
-          (omega (arith, c.fill_piece.auto.buffer, c.in-Ok.ensures.few)) (i.fed t) c.update.ensures
-          (λ k low. subst (λ h. volume_byte h v (c.loop-at.at + k) ≡ Some (get_or c.fill_piece.new.buffer k 0)) (i.same t) (c.in-Ok.ensures.bytes t k low));
+          more_of_image (g.F.Folder.held c.args.folder.now) v c.args.linear.now c.loop-at.linear c.update_beside.new.self c.fill_buffer.new.buffer c.loop-at.at c.in-Ok.count
+          (omega (arith, c.fill_buffer.auto.buffer, c.in-Ok.ensures.few)) (i.fed t) c.update_beside.ensures
+          (λ k low. subst (λ h. volume_byte h v (c.loop-at.at + k) ≡ Some (get_or c.fill_buffer.new.buffer k 0)) (i.same t) (c.in-Ok.ensures.bytes t k low));
       same = λ t. c.in-Ok.ensures.same t ∙ i.same t;
       later = omega (arith, c.in-Ok.ensures.cause.later, i.later);
     }

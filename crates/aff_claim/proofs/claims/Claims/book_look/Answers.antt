@@ -4,7 +4,7 @@ use Rattle.atomic_table.specs.Table.{Allows, step}
 use Rattle.aff_claim.specs.Rule.{IsClaimTable}
 use Rattle.aff_claim.specs.Steps.{book_loads}
 use Rattle.aff_claim.specs.Words.{Names, IsPublished}
-use Rattle.aff_claim.proofs.BookSteps.{load_allows}
+use Rattle.aff_claim.proofs.Allowed.{book_load_allowed}
 use Rattle.aff_claim.proofs.Seated.{same_table}
 use Rattle.aff_claim.proofs.claims.Claims.book_look.Goals as goal
 
@@ -22,7 +22,7 @@ load-found-requires c =
       ap (λ t. t.id) same,
       omega arith,
       subst (λ w. Allows (IsClaimTable table.key) table.table_id.slots seat.id seat.me w (λ x. x) (book_loads (step table.table_id.slots w 0 0 none) seat.me)) (sym c.claim_place.ensures)
-          (load_allows table.key table.table_id.slots seat.id seat.me c.seat.invariant c.args.extent inside),
+          (book_load_allowed table.key table.table_id.slots seat.id seat.me c.seat.invariant c.args.extent inside),
     )
 
 pub invariant_of-seat : goal.invariant_of-seat

@@ -6,4 +6,4 @@ use Rattle.aff_claim.proofs.claims.Claims.claim_first.Given as goal
 abbrev pub invariant-loop-place : goal.invariant-loop-place
 invariant-loop-place l =
     (l.pass.claims ≡ l.initial.pass.claims) × IsLater l.initial.pass.view l.pass.view × (l.pass.view.mine ≡ l.initial.pass.view.mine)
-    × ((i : ℕ) → i < l.place → Contains l.pass.view.known (slice_index l.initial.pass.claims.ranking.falling i))
+    × ((i : ℕ) → i < l.place → Contains l.pass.view.known (slice_index l.initial.pass.claims.ranking.falling i)) × (l.pass.view.looked ≡ l.initial.pass.view.looked)

@@ -1,5 +1,5 @@
-use Rattle.std.proofs.Common.{◌≡◌, ◌<◌, subst, sym, ap, ◌∙◌, arith, refl, length}
-use Rattle.aff_claim.specs.Next.{IsLater, HasClaimed}
+use Rattle.std.proofs.Common.{◌≡◌, ◌<◌, subst, sym, ap, ◌∙◌, arith, refl, inr, length}
+use Rattle.aff_claim.specs.Next.{IsLater, HasClaimed, HasServed}
 use Rattle.aff_claim.specs.Values.{Passing}
 use Rattle.aff_claim.proofs.Later.{later_same, claimed_now}
 use Rattle.aff_claim.proofs.claims.Claims.claim_suggested.Goals as goal
@@ -13,8 +13,10 @@ returns-then-claim-clause-some c =
     let count : c.len.result ≡ length old.claims.ranking.priorities = c.len.ensures.priorities ∙ ap (λ r. length r.priorities) ranking in
     let low = c.if-planned.true in
     let inside : c.in_ok-extent.extent < length old.claims.ranking.priorities = omega arith in
+    let extents : length old.claims.ranking.priorities ≡ c.args.self.now.table.extents = ap (λ r. length r.priorities) (sym ranking) ∙ (ap (λ r. length r.priorities) c.deref.ensures ∙ ap (λ t. t.table.extents) c.self.view_is) in
+    let due = inr (subst (λ n. HasServed n old.view.looked old.view.known) (sym extents) c.requires.served, c.if-may_claim.ensures.urgent refl) in
     subst (λ ps. HasClaimed ps c.in_ok-extent.extent old.view c.claim.new.pass.view) priorities
-    (claimed_now old.claims.ranking.priorities c.in_ok-extent.extent old.view c.claim.new.pass.view inside (c.if-may_claim.ensures.urgent refl) (c.if-claim.ensures.claimed refl))
+    (claimed_now old.claims.ranking.priorities c.in_ok-extent.extent old.view c.claim.new.pass.view inside due (c.if-claim.ensures.claimed refl))
 
 pub returns-then-claim-clause-all_known : goal.returns-then-claim-clause-all_known
 returns-then-claim-clause-all_known c all =

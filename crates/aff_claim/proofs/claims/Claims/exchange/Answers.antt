@@ -6,7 +6,7 @@ use Rattle.atomic_table.specs.Table.{Allows, step}
 use Rattle.aff_claim.specs.Rule.{IsClaimTable}
 use Rattle.aff_claim.specs.Steps.{claims}
 use Rattle.aff_claim.specs.Words.{word_of}
-use Rattle.aff_claim.proofs.PassSteps.{claim_allows}
+use Rattle.aff_claim.proofs.Allowed.{claim_allowed}
 use Rattle.aff_claim.proofs.Remembering.{remembers_more, tried_number, tried_known}
 use Rattle.aff_claim.proofs.Seated.{same_claims}
 use Rattle.aff_claim.proofs.claims.Claims.exchange.Goals as goal
@@ -32,7 +32,7 @@ compare_exchange-found-requires c =
       omega arith,
       subst (λ k. Allows (IsClaimTable table.key) table.table_id.slots seat.id seat.me c.claim_place.result (λ x. either (x == 0) (2 * k + 1) x) (claims (step table.table_id.slots c.claim_place.result 0 (2 * k + 1) none) seat.me)) number
           (subst (λ w. Allows (IsClaimTable table.key) table.table_id.slots seat.id seat.me w (λ x. either (x == 0) (2 * seat.me.0.pass.number + 1) x) (claims (step table.table_id.slots w 0 (2 * seat.me.0.pass.number + 1) none) seat.me)) (sym c.claim_place.ensures)
-          (claim_allows table.key table.table_id.slots seat.id seat.me p.seat c.args.extent inside worker)),
+          (claim_allowed table.key table.table_id.slots seat.id seat.me p.seat c.args.extent inside worker)),
     )
 
 pub invariant_of-pass : goal.invariant_of-pass
@@ -47,7 +47,7 @@ invariant_of-pass c =
     let planned = c.requires.planned in
     let marks = p.count in
     let inside : c.args.extent < length c.pass.inside.seen.items = omega arith in
-    remembers_more (arc_value c.pass.inside.ranking) c.pass.inside.seen.items c.pass.inside.front c.pass.inside.number v c.compare_exchange-found.new.seat.me.0 (ap (λ m. m.0.is_book) told)
+    remembers_more (arc_value c.pass.inside.ranking) c.pass.inside.seen.items c.pass.inside.served.items c.pass.inside.front c.pass.inside.number v c.compare_exchange-found.new.seat.me.0 (ap (λ m. m.0.is_book) told)
     (ap (λ m. m.0.pass.number) told ∙ tried_number v.pass c.args.extent w) p c.args.extent inside (ap (λ m. m.0.pass.known) told ∙ tried_known v.pass c.args.extent w)
 
 pub read_word-requires : goal.read_word-requires

@@ -5,7 +5,7 @@ use Rattle.atomic_table.specs.Table.{Allows, step}
 use Rattle.aff_claim.specs.Rule.{IsClaimTable}
 use Rattle.aff_claim.specs.Steps.{loads}
 use Rattle.aff_claim.specs.Words.{Names}
-use Rattle.aff_claim.proofs.PassSteps.{load_allows}
+use Rattle.aff_claim.proofs.Allowed.{load_allowed}
 use Rattle.aff_claim.proofs.Remembering.{remembers_looked}
 use Rattle.aff_claim.proofs.Seated.{same_claims}
 use Rattle.aff_claim.proofs.claims.Claims.look.Goals as goal
@@ -25,7 +25,7 @@ load-found-requires c =
       ap (λ t. t.table.id) same,
       omega arith,
       subst (λ w. Allows (IsClaimTable table.key) table.table_id.slots seat.id seat.me w (λ x. x) (loads (step table.table_id.slots w 0 0 none) seat.me)) (sym c.claim_place.ensures)
-          (load_allows table.key table.table_id.slots seat.id seat.me p.seat c.args.extent inside),
+          (load_allowed table.key table.table_id.slots seat.id seat.me p.seat c.args.extent inside),
     )
 
 pub invariant_of-pass : goal.invariant_of-pass
@@ -39,7 +39,7 @@ invariant_of-pass c =
     let planned = c.requires.planned in
     let marks = p.count in
     let inside : c.args.extent < length c.pass.inside.seen.items = omega arith in
-    remembers_looked (arc_value c.pass.inside.ranking) c.pass.inside.seen.items c.pass.inside.front c.pass.inside.number v c.load-found.new.seat.me.0 (ap (λ m. m.0.is_book) told) (ap (λ m. m.0.pass.number) told) p
+    remembers_looked (arc_value c.pass.inside.ranking) c.pass.inside.seen.items c.pass.inside.served.items c.pass.inside.front c.pass.inside.number v c.load-found.new.seat.me.0 (ap (λ m. m.0.is_book) told) (ap (λ m. m.0.pass.number) told) p
     c.args.extent c.load-found.result c.index_mut.result.now inside c.index_mut.ensures.value (ap (λ m. m.0.pass.known) told)
 
 pub read_word-requires : goal.read_word-requires

@@ -5,7 +5,7 @@ use Rattle.atomic_table.specs.Table.{Allows, step}
 use Rattle.aff_claim.specs.Rule.{IsClaimTable}
 use Rattle.aff_claim.specs.Steps.{publishes}
 use Rattle.aff_claim.specs.Words.{IsPublished, Names}
-use Rattle.aff_claim.proofs.PublishSteps.{publish_allows}
+use Rattle.aff_claim.proofs.Allowed.{publish_allowed}
 use Rattle.aff_claim.proofs.Seated.{same_table}
 use Rattle.aff_claim.proofs.claims.Claims.publish_word.Goals as goal
 
@@ -26,7 +26,7 @@ compare_exchange-found-requires c =
       omega arith,
       subst (λ w. Allows (IsClaimTable table.key) table.table_id.slots seat.id seat.me w (λ x. either (x == 2 * k + 1) (2 * k + 1 + 1) x) (publishes (step table.table_id.slots w (2 * k + 1) (2 * k + 1 + 1) none) seat.me)) (sym c.claim_place.ensures)
           (subst (λ y. Allows (IsClaimTable table.key) table.table_id.slots seat.id seat.me (c.args.extent + 1) (λ x. either (x == 2 * k + 1) y x) (publishes (step table.table_id.slots (c.args.extent + 1) (2 * k + 1) y none) seat.me)) next
-          (publish_allows table.key table.table_id.slots seat.id seat.me c.seat.invariant c.args.extent k inside)),
+          (publish_allowed table.key table.table_id.slots seat.id seat.me c.seat.invariant c.args.extent k inside)),
     )
 
 pub invariant_of-seat : goal.invariant_of-seat

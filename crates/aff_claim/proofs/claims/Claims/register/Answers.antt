@@ -1,5 +1,5 @@
 use Rattle.std.proofs.Common.{◌-◌, ◌^◌, ◌<◌, subst, sym, ap, ◌∙◌, arith}
-use Rattle.aff_claim.proofs.BookSteps.{register_allows, splits}
+use Rattle.aff_claim.proofs.Allowed.{register_allowed, splits_allowed}
 use Rattle.aff_claim.proofs.claims.Claims.register.Goals as goal
 
 pub fetch_add-number-requires : goal.fetch_add-number-requires
@@ -10,7 +10,7 @@ fetch_add-number-requires c =
     let same = ap (λ t. t.table) c.seat.view_is ∙ (c.requires.table ∙ sym (ap (λ t. t.table) c.self.view_is)) in
     let words = i.1 in
     let room = subst (λ v. v.view.made < 2 ^ 32 - 1) (sym c.seat.view_is) c.requires.room in
-    (ap (λ t. t.id) same, omega arith, register_allows table.key table.table_id.slots seat.id seat.me c.seat.invariant room)
+    (ap (λ t. t.id) same, omega arith, register_allowed table.key table.table_id.slots seat.id seat.me c.seat.invariant room)
 
 pub split_seat-pass-requires : goal.split_seat-pass-requires
 split_seat-pass-requires c =
@@ -22,5 +22,5 @@ split_seat-pass-requires c =
     let told = drawn.ensures.2.0 in (
       drawn.ensures.0 ∙ ap (λ t. t.id) same,
       omega arith,
-      splits table.key table.table_id.slots drawn.new.seat.id drawn.new.seat.me (ap (λ m. m.0.is_book) told ∙ c.seat.invariant) drawn.result (ap (λ m. m.0.book.drawn) told),
+      splits_allowed table.key table.table_id.slots drawn.new.seat.id drawn.new.seat.me (ap (λ m. m.0.is_book) told ∙ c.seat.invariant) drawn.result (ap (λ m. m.0.book.drawn) told),
     )

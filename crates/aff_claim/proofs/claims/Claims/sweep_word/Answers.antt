@@ -5,7 +5,7 @@ use Rattle.atomic_table.specs.Table.{Allows, step}
 use Rattle.aff_claim.specs.Rule.{IsClaimTable}
 use Rattle.aff_claim.specs.Steps.{sweeps, swept}
 use Rattle.aff_claim.specs.Words.{IsPublished, Names}
-use Rattle.aff_claim.proofs.PublishSteps.{sweep_allows}
+use Rattle.aff_claim.proofs.Allowed.{sweep_allowed}
 use Rattle.aff_claim.proofs.Seated.{same_table}
 use Rattle.aff_claim.proofs.claims.Claims.sweep_word.Goals as goal
 
@@ -25,7 +25,7 @@ compare_exchange-found-requires c =
       omega arith,
       subst (λ k. Allows (IsClaimTable table.key) table.table_id.slots seat.id seat.me c.claim_place.result (λ x. either (x == 0) (2 * k + 1) x) (sweeps (step table.table_id.slots c.claim_place.result 0 (2 * k + 1) none) seat.me)) number
           (subst (λ w. Allows (IsClaimTable table.key) table.table_id.slots seat.id seat.me w (λ x. either (x == 0) (2 * table.key.workers + 1) x) (sweeps (step table.table_id.slots w 0 (2 * table.key.workers + 1) none) seat.me)) (sym c.claim_place.ensures)
-          (sweep_allows table.key table.table_id.slots seat.id seat.me c.seat.invariant c.args.extent inside)),
+          (sweep_allowed table.key table.table_id.slots seat.id seat.me c.seat.invariant c.args.extent inside)),
     )
 
 pub invariant_of-seat : goal.invariant_of-seat

@@ -11,6 +11,8 @@ invariant_of-self c =
       numbered = p.numbered;
       count = p.count;
       marks = p.marks;
+      words = p.words;
+      taken = p.taken;
       within = subst Within (sym c.self.view_is) c.requires.within;
       behind = subst Behind (sym c.self.view_is) c.requires.behind;
     }

@@ -1,0 +1,11 @@
+pub mod Targets
+pub mod Runs
+pub mod Digests
+pub mod Cuts
+pub mod CutLines
+pub mod CutTexts
+pub mod Kept
+pub mod Segments
+pub mod Wholes
+pub mod Agreeing
+pub mod Stopped

@@ -1,0 +1,4 @@
+pub mod Codes
+pub mod Answering
+pub mod RunEnds
+pub mod Said
