@@ -6,3 +6,4 @@ mod Lengths
 mod Listing
 mod Opening
 mod Parts
+pub mod Sorted

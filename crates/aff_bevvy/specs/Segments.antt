@@ -1,8 +1,8 @@
 -- The segments of a stream by their lengths.
-use Rattle.std.specs.Prelude.{◌≡◌, ℕ, ◌*◌, ◌<◌, ◌^◌, List, length, slice_index, Option, Some, option_map, IsSomeAnd}
+use Rattle.std.specs.Prelude.{◌≡◌, ℕ, ◌*◌, ◌<◌, ◌^◌, List, length, slice_index, Option, Some, option_map, IsSomeAnd, IsTrue}
 use Rattle.std.specs.Ordering.{nat_cmp}
 use Rattle.std.specs.Cmp.Lexicographic.{slice_cmp}
-use Rattle.std.specs.FinMap.{find, get}
+use Rattle.std.specs.FinMap.{find, get, is_sorted}
 use Rattle.aff_model.specs.Held.{Held}
 use Rattle.aff_spec.specs.Bevvies.{bevvy_count}
 use Rattle.aff_spec.specs.BlockHashes.{chunks_in}
@@ -19,6 +19,10 @@ held_length held name = option_map length (get held name)
 -- in a list of segments with their lengths: the first one's of that name
 abbrev pub listed_length : List (List ℕ × ℕ) → Lengths
 listed_length segments name = find (slice_cmp nat_cmp) name segments
+
+-- the names of listed segments rise, and none stands twice
+abbrev pub AreSorted : List (List ℕ × ℕ) → Type 0
+AreSorted segments = IsTrue (is_sorted (slice_cmp nat_cmp) segments)
 
 -- bevvy b of a stream of n chunks is there, with a length in 64 bits, and so is its index, which has twelve bytes for each
 -- chunk of the bevvy

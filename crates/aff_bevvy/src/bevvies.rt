@@ -1,14 +1,14 @@
 //! Whether the bevvies of a stream are listed, with their indexes.
-ghost use Rattle.std.specs.Prelude.{◌≡◌, ◌≤◌, ◌<◌, Some, IfOk, IfErr, OnOk};
+ghost use Rattle.std.specs.Prelude.{◌≡◌, ◌≤◌, ◌<◌, Some, IfOk, IfErr, IsTrue, OnOk};
 ghost use Rattle.aff_spec.specs.Bevvies.{bevvy_count};
 ghost use Rattle.aff_spec.specs.BlockHashes.{chunks_in as chunks_of_bevvy};
 ghost use Rattle.aff_spec.specs.Names.{bevvy_name};
 ghost use Rattle.aff_bevvy.specs.Checks.{IsBevvyFault, IsOfSegments};
 ghost use Rattle.aff_bevvy.specs.Faults.{IsListFault};
-ghost use Rattle.aff_bevvy.specs.Segments.{AreBevvies, HaveLengths, IsBevvy, listed_length};
+ghost use Rattle.aff_bevvy.specs.Segments.{AreBevvies, AreSorted, HaveLengths, IsBevvy, listed_length};
 
 use crate::StreamError;
-use crate::listed::length_of;
+use crate::listed::{are_sorted, numbered_length};
 use aff_model::{BEVVY, Memory};
 use aff_names::Urn;
 use aff_outside::Segment;
@@ -25,21 +25,23 @@ pub fn chunks_in(chunks: u64, bevvy: u32) -> u32
 fn bevvy_length(
     alloc: Global,
     segments: &[Segment],
+    is_sorted: bool,
     stream: &Urn,
     chunks: u64,
     bevvy: u32,
 ) -> Result<u64, StreamError>
-    requires { bevvy < 100000000 }
+    requires number { bevvy < 100000000 }
+    requires sorted { IsTrue is_sorted → AreSorted segments.now }
     ensures length { IfOk result (λ len. listed_length segments.now (bevvy_name stream.now bevvy) ≡ Some len) }
     ensures bevvy { OnOk result (IsBevvy (listed_length segments.now) stream.now chunks bevvy) }
     ensures fault { IfErr result (IsBevvyFault (listed_length segments.now) stream.now chunks bevvy) }
 {
-    let len = match length_of(alloc, segments, stream, bevvy, "") {
+    let len = match numbered_length(alloc, segments, is_sorted, stream, bevvy, "") {
         Ok(Some(len)) => len,
         Ok(None) => return Err(StreamError::NoSegment(bevvy)),
         Err(Memory) => return Err(StreamError::Memory),
     };
-    let index = match length_of(alloc, segments, stream, bevvy, ".index") {
+    let index = match numbered_length(alloc, segments, is_sorted, stream, bevvy, ".index") {
         Ok(Some(len)) => len,
         Ok(None) => return Err(StreamError::NoSegment(bevvy)),
         Err(Memory) => return Err(StreamError::Memory),
@@ -50,7 +52,8 @@ fn bevvy_length(
     Ok(len)
 }
 
-/// The lengths of the bevvies of a stream of so many chunks.
+/// The lengths of the bevvies of a stream of so many chunks. In a list that is sorted by name, as folders give it, each is found
+/// by halving the list.
 pub fn bevvy_lengths(
     alloc: Global,
     segments: &[Segment],
@@ -63,9 +66,10 @@ pub fn bevvy_lengths(
     ensures fault { IfErr result (IsListFault (listed_length segments.now) stream.now chunks) }
     ensures early { IfErr result IsOfSegments }
 {
+    let is_sorted = are_sorted(segments);
     let mut lens = Vec::new(alloc);
     for bevvy in 0..chunks.div_ceil(BEVVY) as u32 {
-        let len = match bevvy_length(alloc, segments, stream, chunks, bevvy) {
+        let len = match bevvy_length(alloc, segments, is_sorted, stream, chunks, bevvy) {
             Ok(len) => len,
             Err(fault) => return Err(fault),
         };

@@ -18,5 +18,6 @@ mod tests;
 mod writer;
 
 pub use error::StreamError;
+pub use listed::length_of;
 pub use reader::StreamReader;
 pub use writer::{Stored, StreamWriter};

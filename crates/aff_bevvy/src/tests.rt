@@ -1,13 +1,15 @@
 //! What no clause says: that calls succeed where there is memory, and worked refusals.
 ghost use Rattle.std.specs.Prelude.{◌≡◌, ◌+◌, ◌≤◌, length, IfOk};
 
+use crate::bevvies::bevvy_lengths;
 use crate::error::stream_error;
+use crate::listed::are_sorted;
 use crate::{StreamError, StreamReader, StreamWriter};
 use aff_fields::{Point, write_points};
 use aff_memory::MemoryFolder;
 use aff_model::Memory;
 use aff_names::Urn;
-use aff_outside::{Folder, FolderError};
+use aff_outside::{Folder, FolderError, Segment};
 use std::alloc::{AllocError, Global};
 use std::test::Fail;
 
@@ -16,6 +18,8 @@ const STREAM: &str = "aff4://11111111-2222-4333-8444-555555555555/data";
 const BEVVY: &str = "aff4%3A%2F%2F11111111-2222-4333-8444-555555555555%2Fdata/00000000";
 
 const INDEX: &str = "aff4%3A%2F%2F11111111-2222-4333-8444-555555555555%2Fdata/00000000.index";
+
+const NEXT_BEVVY: &str = "aff4%3A%2F%2F11111111-2222-4333-8444-555555555555%2Fdata/00000001";
 
 const NEXT_INDEX: &str = "aff4%3A%2F%2F11111111-2222-4333-8444-555555555555%2Fdata/00000001.index";
 
@@ -194,5 +198,36 @@ fn each_failed_call_is_answered(rt: HostRuntime) -> Result<(), Fail> {
         assert_eq!(rt; one_failing(rt.alloc(), call)?, Err(StreamError::Failed));
     }
     assert_eq!(rt; one_failing(rt.alloc(), 7)?, Ok([0, 0]));
+    Ok(())
+}
+
+/// A listed segment.
+fn segment(alloc: Global, name: &str, len: u64) -> Result<Segment, AllocError> {
+    let name = String::from_str(alloc, name)?;
+    Ok(Segment { name, len })
+}
+
+/// A list that is sorted by name is searched by halving, and any other one from its front.
+#[test]
+fn bevvies_are_found_in_lists_of_any_order(rt: HostRuntime) -> Result<(), Fail> {
+    let alloc = rt.alloc();
+    let stream = Urn::read(alloc, STREAM)?;
+    let mut segments = vec![in alloc;
+        segment(alloc, BEVVY, 33_554_432)?,
+        segment(alloc, INDEX, 12_288)?,
+        segment(alloc, NEXT_BEVVY, 32_768)?,
+        segment(alloc, NEXT_INDEX, 12)?,
+        segment(alloc, "version.txt", 20)?,
+    ]?;
+    assert!(rt; are_sorted(&segments));
+    let sorted = bevvy_lengths(alloc, &segments, &stream, 1_025).map_err(|_| "sorted")?;
+    assert!(rt; sorted.as_slice() == [33_554_432, 32_768].as_slice());
+    segments.reverse();
+    assert!(rt; !are_sorted(&segments));
+    let reversed = bevvy_lengths(alloc, &segments, &stream, 1_025).map_err(|_| "reversed")?;
+    assert!(rt; reversed.as_slice() == sorted.as_slice());
+    segments.remove(1);
+    let short = bevvy_lengths(alloc, &segments, &stream, 1_025);
+    assert!(rt; matches!(short, Err(StreamError::NoSegment(1))));
     Ok(())
 }

@@ -56,7 +56,11 @@ pub fn changed(alloc: Global, bytes: &[u8], change: Change) -> Result<Option<Vec
         Change::Gone => return Ok(None),
         Change::Empty => Vec::new(alloc),
         Change::Cut(count) => joined(alloc, &bytes[..bytes.len().saturating_sub(count)], &[])?,
-        Change::LastLineGone => joined(alloc, &bytes[..before_last_line(bytes)], &[])?,
+        Change::LastLineGone => joined(
+            alloc,
+            &bytes[..before_last_line(bytes).min(bytes.len())],
+            &[],
+        )?,
         Change::Byte(at, byte) => with_byte(alloc, bytes, at, byte)?,
         Change::Text(old, new) => with_text(alloc, bytes, old, new)?,
         Change::Twice => joined(alloc, bytes, bytes)?,

@@ -16,7 +16,7 @@ fn demanded_first(rt: HostRuntime) -> Result<(), Fail> {
         text.as_bytes(),
         card(rt.alloc(), 1_536, &[])?,
         &[],
-        &AskedFirst::new(),
+        &AskedFirst::new(1),
     )?;
     reports(
         &ran,
@@ -53,7 +53,7 @@ md5 ",
     Ok(())
 }
 
-/// So many sectors of one priority, and a session that raises the last one.
+/// So many sectors of one priority, and a session that raises the last one, behind a first question and before a second.
 fn last_raised(alloc: Global, count: u64) -> Result<String, AllocError> {
     let mut text = String::new(alloc);
     let mut at: u64 = 0;
@@ -62,11 +62,12 @@ fn last_raised(alloc: Global, count: u64) -> Result<String, AllocError> {
         at = at.saturating_add(512);
     }
     let last = at.saturating_sub(512);
-    text.push_str(&format!(in alloc; "session\nraise {last} 512\nread 0 0\n")?)?;
+    text.push_str(&format!(in alloc; "session\nread 0 0\nraise {last} 512\nread 0 0\n")?)?;
     Ok(text)
 }
 
-/// The last extent of a thousand is raised while the worker reads the first: it is the second to be published.
+/// The last extent of a thousand is raised while the worker reads the first, for which it has not been asked yet: the raised one
+/// is the second to be published.
 #[test]
 fn the_last_of_a_thousand_is_raised(rt: HostRuntime) -> Result<(), Fail> {
     let text = last_raised(rt.alloc(), 1_000)?;
@@ -75,7 +76,7 @@ fn the_last_of_a_thousand_is_raised(rt: HostRuntime) -> Result<(), Fail> {
         text.as_bytes(),
         card(rt.alloc(), 512_000, &[])?,
         &[],
-        &AskedFirst::new(),
+        &AskedFirst::new(2),
     )?;
     reports(
         &ran,

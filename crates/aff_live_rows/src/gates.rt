@@ -1,5 +1,6 @@
 //! Gates that hold a step until another has come.
 use aff_outside::{Gate, GateStep};
+use std::sync::Arc;
 use std::sync::atomic::{AtomicU64, Ordering};
 use std::thread;
 
@@ -130,17 +131,19 @@ impl Gate for InTurn {
     }
 }
 
-/// Holds a session's questions until the worker's first reading has come, and that reading until the first question was
+/// Holds a session's questions until the worker's first reading has come, and that reading until so many questions were
 /// answered.
 #[derive(Drop)]
 pub struct AskedFirst {
+    questions: u64,
     readings: AtomicU64,
     answers: AtomicU64,
 }
 
 impl AskedFirst {
-    pub fn new() -> AskedFirst {
+    pub fn new(questions: u64) -> AskedFirst {
         AskedFirst {
+            questions,
             readings: AtomicU64::new(0),
             answers: AtomicU64::new(0),
         }
@@ -152,7 +155,7 @@ impl Gate for AskedFirst {
         match step {
             GateStep::Reading(_) => {
                 if self.readings.fetch_add(1, Ordering::SeqCst) == 0 {
-                    wait_for(&self.answers, 1);
+                    wait_for(&self.answers, self.questions);
                 }
             }
             GateStep::Asking(_) => wait_for(&self.readings, 1),
@@ -160,6 +163,73 @@ impl Gate for AskedFirst {
                 self.answers.fetch_add(1, Ordering::SeqCst);
             }
             GateStep::Published(_) => {}
+        }
+    }
+}
+
+/// How many pieces an examiner has seen, and how many of them out of turn.
+#[derive(Drop)]
+pub struct Sightings {
+    count: AtomicU64,
+    strange: AtomicU64,
+}
+
+impl Sightings {
+    pub fn new() -> Sightings {
+        Sightings {
+            count: AtomicU64::new(0),
+            strange: AtomicU64::new(0),
+        }
+    }
+
+    /// The examiner sees the piece of this front.
+    pub fn note(&self, front: u64) {
+        let before = self.count.fetch_add(1, Ordering::SeqCst);
+        if front != before.saturating_add(1) {
+            self.strange.fetch_add(1, Ordering::SeqCst);
+        }
+    }
+
+    /// Whether so many pieces were seen, each in its turn.
+    pub fn saw(&self, count: u64) -> bool {
+        self.count.load(Ordering::SeqCst) == count && self.strange.load(Ordering::SeqCst) == 0
+    }
+}
+
+/// Holds a worker's second reading until an examiner has seen a piece, and looks whether it then has.
+#[derive(Drop)]
+pub struct SeenFirst {
+    readings: AtomicU64,
+    sightings: Arc<Sightings>,
+    blind: AtomicU64,
+}
+
+impl SeenFirst {
+    pub fn new(sightings: Arc<Sightings>) -> SeenFirst {
+        SeenFirst {
+            readings: AtomicU64::new(0),
+            sightings,
+            blind: AtomicU64::new(0),
+        }
+    }
+
+    /// Whether two readings came, and the second one after a piece had been seen.
+    pub fn met(&self) -> bool {
+        self.readings.load(Ordering::SeqCst) == 2 && self.blind.load(Ordering::SeqCst) == 0
+    }
+}
+
+impl Gate for SeenFirst {
+    fn at(&self, step: GateStep) {
+        let GateStep::Reading(_) = step else {
+            return;
+        };
+        if self.readings.fetch_add(1, Ordering::SeqCst) == 0 {
+            return;
+        }
+        wait_for(&self.sightings.count, 1);
+        if self.sightings.count.load(Ordering::SeqCst) == 0 {
+            self.blind.fetch_add(1, Ordering::SeqCst);
         }
     }
 }

@@ -1,11 +1,13 @@
-//! Worked cases of sessions over the whole program: what they are answered while the image grows and behind `after`. Each case
-//! has ample memory, and gates make threads meet in a limit of turns.
+//! Worked cases over the whole program: what sessions are answered while the image grows and behind `after`, and what examiners
+//! are shown of it. Each case has ample memory, and gates make threads meet in a limit of turns.
 #![tactic(auto)]
 
 #[cfg(test)]
 mod answers;
 #[cfg(test)]
 mod demands;
+#[cfg(test)]
+mod examiners;
 #[cfg(test)]
 mod fixture;
 #[cfg(test)]

@@ -25,10 +25,10 @@ use Rattle.aff_outcomes.specs.Runs.{IsIntoEmpty, IsLeftOfRun, IsVolumeOfRun, IsW
 named : (words : List (List ℕ)) → AreAcquire words → is_uuid (uuid_of words) ≡ true
 named words are = ap (λ ws. is_uuid (uuid_of ws)) are.1.are ∙ are.1.uuid_is
 
-module _ (F S D : Type 0) (ask : Request) (old new : Facts F S D) where
+module _ (F S D R : Type 0) (ask : Request R) (old new : Facts F S D) where
   -- what the run was asked for
   abbrev of_plan : Planned → Asked
-  of_plan plan = asked (uuid_of ask.words) plan (length old.devices)
+  of_plan plan = asked (uuid_of ask.words) plan (length old.devices) (length old.examiners)
 
   module _ (words : AreAcquire ask.words) (told : IsTrue ask.tells) where
     accepted : (plan : Planned) (script : Script) → IsPlanned old.devices old.left plan script → IsAsked ask.tells (of_plan plan)
@@ -44,6 +44,7 @@ module _ (F S D : Type 0) (ask : Request) (old new : Facts F S D) where
       asked = of_plan plan;
       uuid = refl;
       workers = refl;
+      examiners = refl;
       script = script;
       planned = planned;
       accepted = accepted plan script planned;
@@ -122,13 +123,13 @@ module _ (F S D : Type 0) (ask : Request) (old new : Facts F S D) where
         let l = at 6 (sym six.0) in
         elim l.1 [ inl failed ↦ absurd (six.1 failed.0) | inr peeked ↦ of_unanswered l.0.words told peeked.2 ]
 
-pub whole : (F S D : Type 0) (ask : Request) (old new : Facts F S D) (before after : Output) (status : ℕ) → IsOutcome ask old new before after status → IsWholeEnd old new status → IsTrue ask.tells → IsVolumeOfRun ask old new.held
-whole F S D ask old new before after status is end told = whole_end F S D ask old new status is.report is.leaves end told
+pub whole : (F S D R : Type 0) (ask : Request R) (old new : Facts F S D) (before after : Output) (status : ℕ) → IsOutcome ask old new before after status → IsWholeEnd old new status → IsTrue ask.tells → IsVolumeOfRun ask old new.held
+whole F S D R ask old new before after status is end told = whole_end F S D R ask old new status is.report is.leaves end told
 
-pub opens : (F S D : Type 0) → finished.OpensInFull → (ask : Request) (old new : Facts F S D) (before after : Output) (status : ℕ) → IsOutcome ask old new before after status
+pub opens : (F S D R : Type 0) → finished.OpensInFull → (ask : Request R) (old new : Facts F S D) (before after : Output) (status : ℕ) → IsOutcome ask old new before after status
     → IsIntoEmpty ask old → (v : Opened) → IsVolumeOf new.held v → IsLeftOfRun ask old new.held
-opens F S D law ask old new before after status is into v volume_is = opened F S D ask old new into.words into.told law into.free v volume_is (status_at status) is.report is.leaves
+opens F S D R law ask old new before after status is into v volume_is = opened F S D R ask old new into.words into.told law into.free v volume_is (status_at status) is.report is.leaves
 
 -- what was left in full was left by the run
-pub left_by : (F S D : Type 0) (ask : Request) (old : Facts F S D) (held : Held) → (run : IsLeftOfRun ask old held) → IsLeftBy ask.case ask.tells run.volume.asked run.volume.image held run.volume.hashes
-left_by F S D ask old held run = record { ask = run.volume.accepted; last = run.last; finished = run.volume.finished; full = run.full }
+pub left_by : (F S D R : Type 0) (ask : Request R) (old : Facts F S D) (held : Held) → (run : IsLeftOfRun ask old held) → IsLeftBy ask.case ask.tells run.volume.asked run.volume.image held run.volume.hashes
+left_by F S D R ask old held run = record { ask = run.volume.accepted; last = run.last; finished = run.volume.finished; full = run.full }

@@ -69,12 +69,12 @@ module _ (words : List (List ℕ)) (first second : ShownFolder) (before after : 
 
   -- ---- over what a run left
 
-  module _ (F S D : Type 0) (answers : AnswersAll) (ask : Request) (old new : Facts F S D) (same : first.held ≡ new.held) (status : ℕ) (is : IsOfflineOutcome words true first second before after status) where
+  module _ (F S D R : Type 0) (answers : AnswersAll) (ask : Request R) (old new : Facts F S D) (same : first.held ≡ new.held) (status : ℕ) (is : IsOfflineOutcome words true first second before after status) where
     pub answered : IsLeftOfRun ask old new.held → IsAnsweredOfRun ask old new words before after status
     answered run = record {
       run = run;
       answered = subst (λ uuid. IsAnsweredOf uuid run.volume.image run.volume.hashes words before after status) run.volume.uuid
-          (answers ask.case ask.tells run.volume.asked run.volume.image new.held run.volume.hashes (left_by F S D ask old new.held run) words first second before after status are same still calm is);
+          (answers ask.case ask.tells run.volume.asked run.volume.image new.held run.volume.hashes (left_by F S D R ask old new.held run) words first second before after status are same still calm is);
     }
 
     pub passed_off : ((v : Opened) → IsVolumeOf new.held v → IsLeftOfRun ask old new.held) → IsAnsweredOfRun ask old new words before after status ⊎ ((status ≡ 7) ⊎ (status ≡ 8))

@@ -4,6 +4,7 @@ ghost use Rattle.aff_model.specs.Content.{IsBlock};
 
 use crate::blocks::read_blocks;
 use crate::device::{Device, DeviceFailed};
+use crate::faults::{Faults, LastError};
 use crate::outcome::counted;
 use std::fs::File;
 use std::io;
@@ -17,7 +18,8 @@ pub struct FileDevice {
     file: Option<File>,
     block: u32,
     size: u64,
-    faults: u64,
+    faults: Faults,
+    failed_at: u64,
 }
 
 impl Model for FileDevice {
@@ -52,15 +54,22 @@ impl FileDevice {
                 file: Some(file),
                 block,
                 size,
-                faults: 0,
+                faults: Faults::none(),
+                failed_at: 0,
             },
-            Err(_) => FileDevice {
+            Err(error) => FileDevice {
                 file: None,
                 block,
                 size: 0,
-                faults: 0,
+                faults: Faults::at_opening(error),
+                failed_at: 0,
             },
         }
+    }
+
+    /// The offset in bytes of the last reading that failed.
+    pub fn failed_at(&self) -> u64 {
+        self.failed_at
     }
 }
 
@@ -73,6 +82,13 @@ fn read_file(file: &Option<File>, block: u32, at: u64, out: &mut [u8]) -> io::Re
     match file {
         Some(file) => read_blocks(file, block, at, out),
         None => Err(io::Error::from(ErrorKind::NotFound)),
+    }
+}
+
+impl LastError for FileDevice {
+    /// Of a device that could not be opened, why not.
+    fn last_error(&self) -> Option<io::Error> {
+        self.faults.last()
     }
 }
 
@@ -97,6 +113,9 @@ impl Device for FileDevice {
         // The size is a `u64`, and so is the end of the range.
         let _size = self.size;
         let outcome = read_file(&self.file, self.block, at, out);
+        if outcome.is_err() {
+            self.failed_at = at;
+        }
         counted(outcome, DeviceFailed, &mut self.faults)
     }
 }

@@ -2,6 +2,7 @@
 ghost use Rattle.std.specs.Prelude.{◌≡◌, false, All, length, refl, IfOk};
 ghost use Rattle.std.specs.FinMap.{empty};
 
+use crate::faults::{Faults, LastError};
 use crate::file_peek::{FilePeek, FileReceipt};
 use crate::folder::{Folder, FolderError, Segment};
 use crate::outcome::{error_behind, folder_answer};
@@ -22,7 +23,8 @@ pub struct FileFolder {
     rt: HostRuntime,
     path: String,
     last: Option<Arc<String>>,
-    faults: u64,
+    faults: Faults,
+    failed: Option<String>,
 }
 
 /// The path of a name in a folder. An empty path names no folder, and `/name` is another's file.
@@ -121,10 +123,23 @@ impl FileFolder {
                 rt,
                 path,
                 last: None,
-                faults: 0,
+                faults: Faults::none(),
+                failed: None,
             }),
             Err(_) => Err(Memory),
         }
+    }
+
+    /// The path that the last call that failed was about: a file's, or the folder's own.
+    pub fn failed_path(&self) -> Option<&str> {
+        Some(self.failed.as_ref()?.as_str())
+    }
+
+    /// Keeps the path of a segment, for whom the error is told.
+    fn keep_path(&mut self, name: &str)
+        ensures { self.new.faults ≡ self.old.faults }
+    {
+        self.failed = joined(&self.rt, self.path.as_str(), name).ok();
     }
 
     /// Takes all its memory before the first byte is written.
@@ -152,6 +167,12 @@ fn file_peeks(rt: &HostRuntime, count: usize) -> io::Result<Vec<FilePeek>>
     Ok(peeks)
 }
 
+impl LastError for FileFolder {
+    fn last_error(&self) -> Option<io::Error> {
+        self.faults.last()
+    }
+}
+
 impl Folder for FileFolder {
     type Receipt = FileReceipt;
 
@@ -166,17 +187,26 @@ impl Folder for FileFolder {
     /// A name that is not UTF-8 is answered by `Failed`.
     fn list(&mut self) -> Result<Vec<Segment>, FolderError> {
         let outcome = list_all(&self.rt, self.path.as_str());
+        if outcome.is_err() {
+            self.failed = String::from_str(self.rt.alloc(), self.path.as_str()).ok();
+        }
         folder_answer(outcome, &mut self.faults)
     }
 
     /// Makes the folder where it is missing, and the one folder in it that the name may begin with.
     fn append(&mut self, name: &str, bytes: &[u8]) -> Result<FileReceipt, FolderError> {
         let outcome = self.append_to(name, bytes);
+        if outcome.is_err() {
+            self.keep_path(name);
+        }
         folder_answer(outcome, &mut self.faults)
     }
 
     fn read_at(&mut self, name: &str, at: u64, out: &mut [u8]) -> Result<(), FolderError> {
         let outcome = read_from(&self.rt, self.path.as_str(), name, at, out);
+        if outcome.is_err() {
+            self.keep_path(name);
+        }
         folder_answer(outcome, &mut self.faults)
     }
 

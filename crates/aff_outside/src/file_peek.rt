@@ -1,6 +1,7 @@
 //! Receipts and peeks of a folder of the file system. They tell nothing of what was appended.
 ghost use Rattle.std.specs.Prelude.{◌≡◌, false, []};
 
+use crate::faults::{Faults, LastError};
 use crate::outcome::counted;
 use crate::receipt::{Peek, PeekFailed, Telling};
 use std::fs::File;
@@ -43,7 +44,8 @@ impl Telling for FileReceipt {
 #[derive(Drop)]
 pub struct FilePeek {
     rt: HostRuntime,
-    faults: u64,
+    faults: Faults,
+    failed: Option<Arc<String>>,
 }
 
 impl Model for FilePeek {
@@ -58,7 +60,22 @@ impl FilePeek {
     pub(crate) fn new(rt: HostRuntime) -> FilePeek
         ensures { result ≡ 0 }
     {
-        FilePeek { rt, faults: 0 }
+        FilePeek {
+            rt,
+            faults: Faults::none(),
+            failed: None,
+        }
+    }
+
+    /// The path of the file that the last fetch that failed would have read.
+    pub fn failed_path(&self) -> Option<&str> {
+        Some(self.failed.as_ref()?.as_str())
+    }
+}
+
+impl LastError for FilePeek {
+    fn last_error(&self) -> Option<io::Error> {
+        self.faults.last()
     }
 }
 
@@ -67,6 +84,9 @@ impl Peek<FileReceipt> for FilePeek {
 
     fn fetch(&mut self, receipt: &FileReceipt, out: &mut [u8]) -> Result<(), PeekFailed> {
         let outcome = receipt.read(&self.rt, out);
+        if outcome.is_err() {
+            self.failed = Arc::try_clone(&receipt.path).ok();
+        }
         counted(outcome, PeekFailed, &mut self.faults)
     }
 }

@@ -8,12 +8,14 @@
 //! `FileDevice`, `FileFolder`, `FilePeek`, `InputSource` and `OutputSink` stand over the file system and the
 //! standard streams, and tell nothing of what they hold. Each has its answers from `outcome`: a folder calls
 //! want of memory `Memory` where nothing was written, and every other error of any adapter is a failure, which
-//! raises its count. What moves bytes is written over any reader, writer or file that tells its own.
+//! raises its count. For a person each keeps its last error, in the system's own words, and where it came from: no clause
+//! speaks of these. What moves bytes is written over any reader, writer or file that tells its own.
 #![tactic(auto)]
 
 mod blocks;
 mod device;
 mod examiner;
+mod faults;
 mod file_device;
 mod file_folder;
 mod file_peek;
@@ -31,6 +33,7 @@ mod write_whole;
 
 pub use device::{Device, DeviceFailed};
 pub use examiner::{Examiner, Seen};
+pub use faults::LastError;
 pub use file_device::FileDevice;
 pub use file_folder::FileFolder;
 pub use file_peek::{FilePeek, FileReceipt};

@@ -5,6 +5,7 @@ ghost use Rattle.std.specs.declared.io.ErrorKind.TheVariants.{OutOfMemory};
 ghost use Rattle.aff_model.specs.Causes.{HasCause};
 ghost use Rattle.aff_outside.specs.Outcomes.{IsCounted, IsFolderAnswer};
 
+use crate::faults::Faults;
 use crate::folder::FolderError;
 use std::io;
 use std::io::ErrorKind;
@@ -20,22 +21,25 @@ fn is_memory(error: &io::Error) -> bool
 pub(crate) fn counted<T, E: Copy>(
     outcome: io::Result<T>,
     failed: E,
-    faults: &mut u64,
+    faults: &mut Faults,
 ) -> Result<T, E>
     ensures exact { IsCounted outcome failed result faults.old faults.new }
     ensures cause { HasCause faults.old faults.new (IsErr result) }
 {
     match outcome {
         Ok(value) => Ok(value),
-        Err(_) => {
-            *faults = faults.saturating_add(1);
+        Err(error) => {
+            faults.add(error);
             Err(failed)
         }
     }
 }
 
 /// The answer of a folder: want of memory is `Memory`, and every other error `Failed`, which is counted.
-pub(crate) fn folder_answer<T>(outcome: io::Result<T>, faults: &mut u64) -> Result<T, FolderError>
+pub(crate) fn folder_answer<T>(
+    outcome: io::Result<T>,
+    faults: &mut Faults,
+) -> Result<T, FolderError>
     ensures exact { IsFolderAnswer outcome result faults.old faults.new }
     ensures cause { HasCause faults.old faults.new (IsErrOf result FolderError.Failed) }
 {

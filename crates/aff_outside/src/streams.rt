@@ -4,16 +4,18 @@ ghost use Rattle.std.specs.Prelude.{◌≡◌, ◌≤◌, ℕ, length, take, OnO
 ghost use Rattle.std.specs.Io.KnownBytes.{Appends};
 ghost use Rattle.aff_model.specs.Causes.{HasCause};
 
+use crate::faults::{Faults, LastError};
 use crate::outcome::counted;
 use crate::text::{Sink, SinkError, Source, SourceFailed};
 use crate::write_whole::write_whole;
+use std::io;
 use std::io::{Read, Stdin, Stdout, Write};
 
 /// A reader as a source: standard input.
 #[derive(Drop)]
 pub struct InputSource<R = Stdin> {
     reader: R,
-    faults: u64,
+    faults: Faults,
 }
 
 impl InputSource {
@@ -24,7 +26,16 @@ impl InputSource {
 
 impl<R: Read> InputSource<R> {
     pub(crate) fn over(reader: R) -> InputSource<R> {
-        InputSource { reader, faults: 0 }
+        InputSource {
+            reader,
+            faults: Faults::none(),
+        }
+    }
+}
+
+impl<R> LastError for InputSource<R> {
+    fn last_error(&self) -> Option<io::Error> {
+        self.faults.last()
     }
 }
 
@@ -43,7 +54,7 @@ impl<R: Read + Drop> Source for InputSource<R> {
 #[derive(Drop)]
 pub struct OutputSink<W = Stdout> {
     writer: W,
-    faults: u64,
+    faults: Faults,
 }
 
 impl OutputSink {
@@ -54,7 +65,16 @@ impl OutputSink {
 
 impl<W: Write> OutputSink<W> {
     pub(crate) fn over(writer: W) -> OutputSink<W> {
-        OutputSink { writer, faults: 0 }
+        OutputSink {
+            writer,
+            faults: Faults::none(),
+        }
+    }
+}
+
+impl<W> LastError for OutputSink<W> {
+    fn last_error(&self) -> Option<io::Error> {
+        self.faults.last()
     }
 }
 

@@ -1,7 +1,7 @@
 //! What no clause says: what the adapters over files do to a file system.
 use crate::{
-    Device, DeviceFailed, FileDevice, FileFolder, Folder, FolderError, InputSource, OutputSink,
-    Peek, PeekFailed, Sink, SinkError, Source, SourceFailed, read_segment,
+    Device, DeviceFailed, FileDevice, FileFolder, Folder, FolderError, InputSource, LastError,
+    OutputSink, Peek, PeekFailed, Sink, SinkError, Source, SourceFailed, read_segment,
 };
 use std::alloc::Global;
 use std::fs::{File, OpenOptions};
@@ -133,5 +133,28 @@ fn a_closed_pipe_as_output_fails(rt: HostRuntime) -> Result<(), Fail> {
     assert_eq!(rt; sink.write(b"line"), Ok(()));
     drop(reader);
     assert_eq!(rt; sink.write(b"line"), Err(SinkError::Failed));
+    Ok(())
+}
+
+/// The system's words of the last error.
+fn words(alloc: Global, adapter: &impl LastError) -> Result<String, Fail> {
+    let error = adapter.last_error().ok_or("nothing failed")?;
+    Ok(format!(in alloc; "{error}")?)
+}
+
+#[test]
+fn adapters_keep_why_they_failed(rt: HostRuntime) -> Result<(), Fail> {
+    let alloc = rt.alloc();
+    let missing = "No such file or directory (os error 2)";
+    let path = fresh_path(&rt, "aff_outside_missing")?;
+    let device = FileDevice::open(&rt, path.as_str(), 512);
+    assert_eq!(rt; words(alloc, &device)?.as_str(), missing);
+    let below = format!(in alloc; "{path}/below")?;
+    let mut folder = FileFolder::at(rt, below.as_str()).map_err(|_| "memory")?;
+    assert!(rt; folder.last_error().is_none());
+    assert!(rt; folder.append("map", &[1]).is_err());
+    assert_eq!(rt; words(alloc, &folder)?.as_str(), missing);
+    let map = format!(in alloc; "{below}/map")?;
+    assert_eq!(rt; folder.failed_path(), Some(map.as_str()));
     Ok(())
 }

@@ -12,6 +12,8 @@ use Rattle.aff_model.specs.declared.publication.Place.TheVariants.{Zero, Chunk, 
 use Rattle.aff_model.specs.Content.{Content}
 use Rattle.aff_model.specs.Held.{Held}
 use Rattle.aff_model.specs.History.{Published}
+use Rattle.aff_examine.specs.Folds.{Sight}
+use Rattle.aff_examine.specs.Sights.{shown_as, shown_bytes}
 
 -- a content in blocks of one sector, whose byte at each place is the place and one
 abbrev pub counting : Content
@@ -39,8 +41,15 @@ abbrev pub one_stored : List Published
 one_stored = publication 0 [] (Chunk 0 ∷ []) ∷ []
 
 -- sectors 01, bad, 03 in one extent
+abbrev pub one_bad_read : Published
+one_bad_read = publication 0 (1 ∷ []) (Chunk 0 ∷ [])
+
 abbrev pub one_bad : List Published
-one_bad = publication 0 (1 ∷ []) (Chunk 0 ∷ []) ∷ []
+one_bad = one_bad_read ∷ []
+
+-- the same as it is shown to an examiner, as the publication of this front
+abbrev pub one_bad_seen : ℕ → Sight
+one_bad_seen front = record { piece = shown_as (extent 0 1536) front one_bad_read; bytes = shown_bytes counting (extent 0 1536) one_bad_read }
 
 -- blocks 01, bad, 03 of eight sectors each, in one extent
 abbrev pub one_bad_block : List Published

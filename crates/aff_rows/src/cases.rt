@@ -1,5 +1,5 @@
 //! The definitions, computed on small inputs: each function is a law, and does nothing.
-ghost use Rattle.std.specs.Prelude.{◌≡◌, Some, None, [], ◌∷◌, codes};
+ghost use Rattle.std.specs.Prelude.{◌≡◌, Some, None, [], ◌∷◌, codes, slice_index};
 ghost use Rattle.std.specs.List.{range_with_len};
 ghost use Rattle.aff_model.specs.declared.publication.Place.TheVariants.{Zero, Chunk, Nothing};
 ghost use Rattle.aff_model.specs.declared.cell.Cell.TheVariants.{Byte, Unreadable, Unknown};
@@ -13,7 +13,10 @@ ghost use Rattle.aff_spec.specs.Report.{place_runs, sector_runs, Zeros, Nothings
 ghost use Rattle.aff_spec.specs.Runs.{history_spot, lookup};
 ghost use Rattle.aff_spec.specs.Symbols.{fill_of};
 ghost use Rattle.aff_spec.specs.Volumes.{volume_cell, volume_byte, volume_of};
-ghost use Rattle.aff_rows.specs.Small.{counting, extent, one_stored, one_bad, one_bad_block, bad_chunk, two_zeros, urgent_first, uuid, four_bytes};
+ghost use Rattle.aff_examine.specs.Folds.{fold_of};
+ghost use Rattle.aff_examine.specs.Sights.{shown_as, shown_bytes};
+ghost use Rattle.aff_examine.specs.Tallies.{tally_rule, tally_text};
+ghost use Rattle.aff_rows.specs.Small.{counting, extent, one_stored, one_bad, one_bad_read, one_bad_seen, one_bad_block, bad_chunk, two_zeros, urgent_first, uuid, four_bytes};
 
 /// One sector: its chunk is chunk 0, its bytes are places 0 to 511 of the stream, and nothing else is there.
 pub fn one_sector()
@@ -45,6 +48,19 @@ pub fn one_bad_sector()
     ensures unknown { cell_of counting (extent 0 1536 ∷ []) one_bad 1536 ≡ Unknown }
     ensures letter { fill_of 512 Unreadable ≡ 76 }
     ensures sectors { sector_runs (1 ∷ []) ≡ record { first = 1; count = 1 } ∷ [] }
+{}
+
+/// The same, as an examiner is shown it, and as a tally counts it: once, twice, and where its count is full.
+pub fn one_bad_sector_examined()
+    ensures piece { shown_as (extent 0 1536) 1 one_bad_read ≡ record { front = 1; extent = 0; at = 0; len = 1536; bad = 1 ∷ [] } }
+    ensures before { slice_index (shown_bytes counting (extent 0 1536) one_bad_read) 511 ≡ 512 }
+    ensures bad { slice_index (shown_bytes counting (extent 0 1536) one_bad_read) 512 ≡ 0 }
+    ensures bad_last { slice_index (shown_bytes counting (extent 0 1536) one_bad_read) 1023 ≡ 0 }
+    ensures behind { slice_index (shown_bytes counting (extent 0 1536) one_bad_read) 1024 ≡ 1025 }
+    ensures once { fold_of tally_rule (0 ∷ 0 ∷ []) (one_bad_seen 1 ∷ []) ≡ 1024 ∷ 512 ∷ [] }
+    ensures twice { fold_of tally_rule (0 ∷ 0 ∷ []) (one_bad_seen 1 ∷ one_bad_seen 2 ∷ []) ≡ 2048 ∷ 1024 ∷ [] }
+    ensures full { fold_of tally_rule (18446744073709551615 ∷ 0 ∷ []) (one_bad_seen 1 ∷ []) ≡ 18446744073709551615 ∷ 512 ∷ [] }
+    ensures text { tally_text (1024 ∷ 512 ∷ []) ≡ codes "readable 1024 unreadable 512" }
 {}
 
 /// Blocks 01, bad, 03 of 4,096 bytes: the eight sectors of the second are unreadable together.

@@ -127,7 +127,21 @@ module _ (case : Option Content) (tells : Bool) (ask : Asked) (is_plan : IsPlan 
 
 -- what so many workers of a run are asked for
 abbrev pub ask_of : Run → Asked
-ask_of run = asked run.volume run.plan run.workers
+ask_of run = asked run.volume run.plan run.workers 0
+
+-- how many examiners look on changes nothing of what a folder holds
+pub cut_off_for : (case : Option Content) (tells : Bool) (uuid : List ℕ) (plan : Planned) (workers n m : ℕ) (held : Held) → IsCutOff case tells (asked uuid plan workers n) held → IsCutOff case tells (asked uuid plan workers m) held
+cut_off_for case tells uuid plan workers n m held is = record { image = is.image; stopped = record { plan = is.stopped.plan; image = is.stopped.image; reached = is.stopped.reached } }
+
+pub whole_for : (case : Option Content) (tells : Bool) (uuid : List ℕ) (plan : Planned) (workers n m : ℕ) (held : Held) (history : List Published) (h : Hashes)
+    → IsWhole case tells (asked uuid plan workers n) held history h → IsWhole case tells (asked uuid plan workers m) held history h
+whole_for case tells uuid plan workers n m held history h is =
+    let f = is.finished in
+    record {
+      image = is.image;
+      history_is = is.history_is;
+      finished = record { plan = f.plan; image = f.image; complete = f.complete; bytes = f.bytes; linear = f.linear; digests = f.digests; block_map = f.block_map; whole = f.whole };
+    }
 
 -- a book that is not going any more
 pub cut_off_book : (run : Run) (tells : Bool) {R : Type 0} (told : R → List ℕ) (b : Pages R) → BookRule run tells told b → IsCutOff run.case tells (ask_of run) b.held

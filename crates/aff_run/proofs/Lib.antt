@@ -1,3 +1,4 @@
+pub mod Closings
 pub mod CoreRun
 pub mod Crews
 pub mod Ends
@@ -5,5 +6,7 @@ pub mod Keeping
 pub mod Learning
 pub mod Lives
 pub mod Replies
+pub mod Showing
 pub mod Stepping
 pub mod Sweeping
+pub mod Watches

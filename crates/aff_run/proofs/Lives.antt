@@ -20,7 +20,7 @@ use Rattle.aff_session.specs.Sittings.{HasSat, Sitting}
 use Rattle.aff_run.specs.Sessions.{HasClosed, HasLearned, HasLived, IsCaused, IsFresh, IsReady}
 
 -- a viewer that has grown is of the same list
-grown_list : {R : Type 0} (list : ListName) (old new : Option (Beginning R)) → MayHaveGrown old new → IfSome old (λ v. v.list ≡ list) → IfSome new (λ v. v.list ≡ list)
+pub grown_list : {R : Type 0} (list : ListName) (old new : Option (Beginning R)) → MayHaveGrown old new → IfSome old (λ v. v.list ≡ list) → IfSome new (λ v. v.list ≡ list)
 grown_list list None None grown is = tt
 grown_list list None (Some w) grown is = absurd (cc grown)
 grown_list list (Some v) None grown is = tt
@@ -31,7 +31,7 @@ pub told_list : {R : Type 0} (o : Option (Beginning R)) (list told : ListName) �
 told_list None list told is of = tt
 told_list (Some v) list told is of = is ∙ sym of
 
-positive : (before now : ℕ) → Rose before now → 0 < now
+pub positive : (before now : ℕ) → Rose before now → 0 < now
 positive before now rose = omega (arith, rose)
 
 -- a fault has its cause

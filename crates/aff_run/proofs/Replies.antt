@@ -1,6 +1,6 @@
 -- How a run ends, of what its sessions leave.
 use Rattle.std.proofs.Common.{◌≡◌, ℕ, zero, suc, ◌<◌, List, [], ◌∷◌, ◌++◌, append_assoc, length, map, take, refl, sym, ap, subst, ◌∙◌, arith, inl, inr}
-use Rattle.std.specs.Prelude.{◌⊎◌, All, Bool, Contains, Option, Some, None, IfSome, slice_index_or}
+use Rattle.std.specs.Prelude.{◌⊎◌, All, Bool, Contains, Err, IfErr, Ok, Option, Result, Some, None, IfSome, slice_index_or}
 use Rattle.std.specs.Arc.{arc_value}
 use Rattle.std.specs.List.{AllZip}
 use Rattle.std.specs.declared.sync.Arc.{Arc}
@@ -152,30 +152,31 @@ left_whole case tells ask held pieces hashes whole = record { image = whole.imag
 pub taken : {S : Type 0} (news rest : List S) (n : ℕ) → length news ≡ n → (Q : List S → Type 0) → Q (take n (news ++ rest)) → Q news
 taken news rest n len Q is = subst Q (take_at news rest n len) is
 
-module _ {R Z P : Type 0} (case : Option Content) (tells shown : Bool) (same : shown ≡ tells) (told : R → List ℕ) (faults : P → ℕ) (ask : Asked) (held : Held) (arcs : List (Arc (Part R) Z)) (hashes : Hashes)
-    (olds slice news : List (Sitting R P)) (is : slice ≡ olds) (len : length news ≡ length slice) (each : AreClosed shown told faults (map arc_value arcs) slice news)
-    (planned : All (λ (s : Sitting R P). s.plan ≡ ask.plan) olds) (sound : AreSound case ask.plan tells told (map arc_value arcs)) (whole : IsWhole case tells ask held (map published arcs) hashes) where
-  -- all is answered
-  pub end_done : first_fault news ≡ None → (sessions : List (List Answered)) → sessions ≡ map (λ s. s.answers) news
-      → IsAcquired case tells ask (map (λ s. s.requests) olds) held (map published arcs) sessions hashes × AreAnsweredAll ask.plan tells told (map arc_value arcs) (map (λ s. s.requests) olds) sessions
-  end_done none sessions are =
-      let pieces = map arc_value arcs in
-      let closed = subst (λ (l : List (Sitting R P)). AreClosed shown told faults pieces l news) is each in
-      let all = all_answered shown told faults pieces ask.plan olds news (len ∙ ap length is) closed planned (no_fault news none) in
-      acquired case tells told ask held arcs hashes (map (λ s. s.requests) olds) sessions whole sound
-      (subst (λ (l : List (List Answered)). AreAnsweredAll ask.plan tells told pieces (map (λ (s : Sitting R P). s.requests) olds) l) (sym are)
-      (subst (λ (b : Bool). AreAnsweredAll ask.plan b told pieces (map (λ (s : Sitting R P). s.requests) olds) (map (λ (s : Sitting R P). s.answers) news)) same all))
+module _ {R P : Type 0} (tells : Bool) (told : R → List ℕ) (faults : P → ℕ) (pieces : List (Part R)) (olds slice news : List (Sitting R P)) (is : slice ≡ olds) (len : length news ≡ length slice) (each : AreClosed tells told faults pieces slice news) where
+  -- without a fault all is answered
+  pub answered : first_fault news ≡ None → (plan : Planned) → All (λ (s : Sitting R P). s.plan ≡ plan) olds → (answers : List (List Answered)) → answers ≡ map (λ s. s.answers) news
+      → AreAnsweredAll plan tells told pieces (map (λ s. s.requests) olds) answers
+  answered none plan planned answers are =
+      let closed = subst (λ (l : List (Sitting R P)). AreClosed tells told faults pieces l news) is each in
+      subst (λ (l : List (List Answered)). AreAnsweredAll plan tells told pieces (map (λ (s : Sitting R P). s.requests) olds) l) (sym are)
+      (all_answered tells told faults pieces plan olds news (len ∙ ap length is) closed planned (no_fault news none))
 
-  -- a peek failed
-  pub end_failed : first_fault news ≡ Some Failed → (peeks before : List P) → peeks ≡ before ++ map (λ s. s.peek) news → HasFailed faults peeks × IsLeftWhole case tells ask held
-  end_failed first peeks before are = (
-    failed shown faults news peeks before first (all_caused shown told faults (map arc_value arcs) slice news len each) are,
-    left_whole case tells ask held arcs hashes whole,
-  )
+  -- and a fault has its cause
+  pub faulty : (fault : SessionFault) → first_fault news ≡ Some fault → (peeks before : List P) → peeks ≡ before ++ map (λ s. s.peek) news → IsCaused tells (HasFailed faults peeks) fault
+  faulty Failed first peeks before are = failed tells faults news peeks before first (all_caused tells told faults pieces slice news len each) are
+  faulty Memory first peeks before are = tt
+  faulty (Damaged chunk recorded found) first peeks before are = damaged tells faults news chunk recorded found first (all_caused tells told faults pieces slice news len each)
 
-  -- a chunk is damaged
-  pub end_damaged : (chunk : ℕ) (recorded found : List ℕ) → first_fault news ≡ Some (Damaged chunk recorded found) → IsDamage tells recorded found × IsLeftWhole case tells ask held
-  end_damaged chunk recorded found first = (
-    subst (λ (b : Bool). IsDamage b recorded found) same (damaged shown faults news chunk recorded found first (all_caused shown told faults (map arc_value arcs) slice news len each)),
-    left_whole case tells ask held arcs hashes whole,
-  )
+-- a peek that failed is among more of them
+pub more_peeks : {P : Type 0} (faults : P → ℕ) (peeks more all : List P) → all ≡ peeks ++ more → HasFailed faults peeks → HasFailed faults all
+more_peeks faults peeks more all are is = record { peek = is.peek; there = subst (λ (l : List _). Contains l is.peek) (sym are) (Contains-append_left peeks more is.peek is.there); failed = is.failed }
+
+-- and so a fault has its cause there
+pub cause_more : {P : Type 0} (tells shown : Bool) (same : shown ≡ tells) (faults : P → ℕ) (peeks more all : List P) → all ≡ peeks ++ more → (fault : SessionFault) → IsCaused shown (HasFailed faults peeks) fault → IsCaused tells (HasFailed faults all) fault
+cause_more tells shown same faults peeks more all are Failed is = more_peeks faults peeks more all are is
+cause_more tells shown same faults peeks more all are Memory is = tt
+cause_more tells shown same faults peeks more all are (Damaged chunk recorded found) is = subst (λ (b : Bool). IsDamage b recorded found) same is
+
+pub cause_if : {A P : Type 0} (tells shown : Bool) (same : shown ≡ tells) (faults : P → ℕ) (peeks more all : List P) → all ≡ peeks ++ more → (r : Result A SessionFault) → IfErr r (IsCaused shown (HasFailed faults peeks)) → IfErr r (IsCaused tells (HasFailed faults all))
+cause_if tells shown same faults peeks more all are (Ok a) is = tt
+cause_if tells shown same faults peeks more all are (Err fault) is = cause_more tells shown same faults peeks more all are fault is

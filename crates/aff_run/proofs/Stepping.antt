@@ -23,3 +23,12 @@ module _ {S : Type 0} (Rel : S → S → Type 0) (olds xs : List S) (i : ℕ) (y
 -- what holds of each element before holds of the one at the place
 pub at_place : {S : Type 0} (Q : S → Type 0) (olds xs : List S) (i : ℕ) (e : S) → ((k : ℕ) (d : S) → i ≤ k → get_or xs k d ≡ get_or olds k d) → All Q olds → i < length olds → Q (get_or xs i e)
 at_place Q olds xs i e rest all below = subst Q (sym (rest i e (omega arith))) (all i e below)
+
+-- and so it does of that element, which a reference was taken to
+pub at_index : {S : Type 0} (Q : S → Type 0) (olds xs : List S) (i : ℕ) (e : S) → e ≡ get_or xs i e → ((k : ℕ) (d : S) → i ≤ k → get_or xs k d ≡ get_or olds k d) → All Q olds → i < length olds → Q e
+at_index Q olds xs i e is rest all below = subst Q (sym is) (at_place Q olds xs i e rest all below)
+
+-- the elements before a place are changed, and now that to which a reference was taken
+pub changed_at : {S : Type 0} (Rel : S → S → Type 0) (olds xs : List S) (i : ℕ) (y : S) → i < length xs → ((k : ℕ) (d : S) → k < i → Rel (get_or olds k d) (get_or xs k d)) → ((k : ℕ) (d : S) → i ≤ k → get_or xs k d ≡ get_or olds k d)
+    → (e : S) → e ≡ get_or xs i e → Rel e y → (k : ℕ) (d : S) → k < i + 1 → Rel (get_or olds k d) (get_or (set xs i y) k d)
+changed_at {S} Rel olds xs i y inside done rest e is one = changed Rel olds xs i y inside done rest e (subst (λ (z : S). Rel z y) is one)

@@ -21,12 +21,13 @@ use Rattle.aff_session.specs.Shown.{AreAnsweredBy}
 use Rattle.aff_store.specs.Written.{Written}
 use Rattle.aff_finish.specs.Finished.{IsFinished, IsStopped}
 use Rattle.aff_finish.specs.declared.hashes.Hashes.{Hashes}
+use Rattle.aff_run.specs.declared.ending.Acquired.{Acquired}
 use Rattle.aff_run.specs.declared.ending.RunEnd.{RunEnd}
 use Rattle.aff_run.specs.declared.ending.RunEnd.TheVariants.{Done, Failed, Damaged, Memory}
 
--- what so many workers are asked for, with nobody who looks on
-abbrev pub asked : List ℕ → Planned → ℕ → Asked
-asked uuid plan workers = record { uuid = uuid; plan = plan; workers = workers; examiners = 0 }
+-- what so many workers are asked for, with so many examiners beside them
+abbrev pub asked : List ℕ → Planned → ℕ → ℕ → Asked
+asked uuid plan workers examiners = record { uuid = uuid; plan = plan; workers = workers; examiners = examiners }
 
 -- the plan was acquired: the folder is the finished volume, with these hashes, of an image with this history, and each session of
 -- the script was answered by the history
@@ -51,7 +52,7 @@ pub record IsWhole (case : Option Content) (tells : Bool) (ask : Asked) (held : 
   pub history_is : image.history ≡ history
   pub finished : IsFinished case tells ask image held hashes
 
--- the folder is the finished volume of an image of the plan, and a session was not answered
+-- the folder is the finished volume of an image of the plan, and a session was not answered or an examiner not shown all
 pub record IsLeftWhole (case : Option Content) (tells : Bool) (ask : Asked) (held : Held) : Type 0 where
   pub image : Image
   pub hashes : Hashes
@@ -67,6 +68,13 @@ pub record HasFailed {P : Type 0} (faults : P → ℕ) (peeks : List P) : Type 0
 pub record IsDamage (tells : Bool) (recorded found : List ℕ) : Type 0 where
   pub untold : ¬ (IsTrue tells)
   pub differs : found ≢ recorded
+
+-- what holds of what was acquired, where a run came to that
+abbrev pub IfDone : {R : Type 0} → RunEnd R → (Acquired R → Type 0) → Type 0
+IfDone (Done a) Holds = Holds a
+IfDone Failed Holds = Unit {0}
+IfDone (Damaged chunk recorded found) Holds = Unit {0}
+IfDone Memory Holds = Unit {0}
 
 -- what each end leaves in a folder in which nothing stood; `folder` says that the folder failed in the run, and `peek` that a peek did
 abbrev pub Leaves : {R : Type 0} → Option Content → Bool → (R → List ℕ) → Asked → List (List Request) → Held → Type 0 → Type 0 → RunEnd R → Type 0

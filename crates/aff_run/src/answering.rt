@@ -1,18 +1,13 @@
 //! How sessions are answered by a list that is whole.
-ghost use Rattle.std.specs.Prelude.{◌≡◌, ◌+◌, ◌<◌, ◌≤◌, ◌++◌, [], ℕ, All, IfSome, length, map, slice_index_or, vec_capacity, vec_len};
+ghost use Rattle.std.specs.Prelude.{◌≡◌, ◌+◌, ◌<◌, ◌≤◌, ◌++◌, [], ℕ, All, IfErr, IfOk, IfSome, length, map, slice_index_or, vec_capacity, vec_len};
 ghost use Rattle.std.specs.Arc.{arc_value};
-ghost use Rattle.aff_model.specs.Held.{Held};
-ghost use Rattle.aff_model.specs.Pieces.{published};
-ghost use Rattle.aff_image.specs.Asked.{Asked};
-ghost use Rattle.aff_image.specs.Sound.{AreSound};
+ghost use Rattle.aff_model.specs.Plan.{Planned};
 ghost use Rattle.aff_book.specs.Pages.{list_of, run_of};
-ghost use Rattle.aff_run.specs.Ends.{HasFailed, IsWhole, Leaves};
+ghost use Rattle.aff_run.specs.Ends.{AreAnsweredAll, HasFailed};
 ghost use Rattle.aff_run.specs.Sessions as spec;
-ghost use Rattle.aff_run.specs.Sessions.{HasClosed, HasLearned, IsReady, first_fault};
+ghost use Rattle.aff_run.specs.Sessions.{HasClosed, HasLearned, IsCaused, IsReady, first_fault};
 
-use crate::{Acquired, RunEnd};
 use aff_book::Book;
-use aff_finish::Hashes;
 use aff_model::{Case, Named, Piece};
 use aff_outside::Folder;
 use aff_script::Answer;
@@ -34,43 +29,27 @@ pub(crate) fn learn_all<C: Case, N: Named, F: Folder>(
     }
 }
 
-/// Answers the sessions what is left, by the pieces of a volume that is finished, and says how the run ends: with the fault of the
-/// first session that has one.
+/// Answers the sessions what is left, by all pieces; or gives the fault of the first session that has one. The peeks go back.
 pub(crate) fn answer_all<C: Case, F: Folder>(
-    acquired: (Vec<Arc<Piece<F::Receipt>>>, Hashes),
+    pieces: &[Arc<Piece<F::Receipt>>],
     sessions: Vec<Session<C, F>>,
     answers: Vec<Vec<Answer>>,
     peeks: &mut Vec<F::Peek>,
-) -> RunEnd<F::Receipt>
-    requires ready { All (λ s. IsReady C.content F.Receipt.receipt_tells F.Receipt.told F.Peek.peek_faults (map arc_value acquired.0.items) s) sessions.items }
+) -> Result<Vec<Vec<Answer>>, SessionFault>
+    requires ready { All (λ s. IsReady C.content F.Receipt.receipt_tells F.Receipt.told F.Peek.peek_faults (map arc_value pieces.now) s) sessions.items }
     requires none { answers.items ≡ [] }
     requires room { (vec_len sessions ≤ vec_capacity answers) × (vec_len peeks.old + vec_len sessions ≤ vec_capacity peeks.old) }
-    ensures { (ask : Asked) (held : Held) → All (λ s. s.plan ≡ ask.plan) sessions.items → AreSound C.content ask.plan F.tells F.Receipt.told (map arc_value acquired.0.items) → IsWhole C.content F.tells ask held (map published acquired.0.items) acquired.1
-        → Leaves C.content F.tells F.Receipt.told ask (map (λ s. s.requests) sessions.items) held ⊥ (HasFailed F.Peek.peek_faults peeks.new.items) result }
+    ensures answers { IfOk result (λ a. (plan : Planned) → All (λ s. s.plan ≡ plan) sessions.items
+        → AreAnsweredAll plan F.Receipt.receipt_tells F.Receipt.told (map arc_value pieces.now) (map (λ s. s.requests) sessions.items) (map (λ a. a.items) a.items)) }
+    ensures fault { IfErr result (IsCaused F.Receipt.receipt_tells (HasFailed F.Peek.peek_faults peeks.new.items)) }
+    ensures peeks { (vec_len peeks.new ≡ vec_len peeks.old + vec_len sessions) × (vec_capacity peeks.new ≡ vec_capacity peeks.old) }
 {
-    let (pieces, hashes) = acquired;
     let mut sessions = sessions;
-    answer_late(&pieces, &mut sessions);
-    let (sessions, fault) = part(sessions, answers, peeks);
+    answer_late(pieces, &mut sessions);
+    let (answers, fault) = part(sessions, answers, peeks);
     match fault {
-        None => RunEnd::Done(Acquired {
-            pieces,
-            sessions,
-            hashes,
-        }),
-        Some(SessionFault::Failed) => RunEnd::Failed,
-        Some(
-            SessionFault::Damaged {
-                chunk,
-                recorded,
-                found,
-            },
-        ) => RunEnd::Damaged {
-            chunk,
-            recorded,
-            found,
-        },
-        Some(SessionFault::Memory) => RunEnd::Memory,
+        None => Ok(answers),
+        Some(fault) => Err(fault),
     }
 }
 
@@ -99,6 +78,7 @@ fn part<C: Case, F: Folder>(
     ensures answers { map (λ a. a.items) result.0.items ≡ map (λ s. s.answers) sessions.items }
     ensures fault { result.1 ≡ first_fault sessions.items }
     ensures peeks { peeks.new.items ≡ peeks.old.items ++ map (λ s. s.peek) sessions.items }
+    ensures room { (vec_len peeks.new ≡ vec_len peeks.old + vec_len sessions) × (vec_capacity peeks.new ≡ vec_capacity peeks.old) }
 {
     let mut answers = room;
     let mut first = None;

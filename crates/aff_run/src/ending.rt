@@ -1,21 +1,22 @@
 //! How a run ends.
 use aff_finish::Hashes;
 use aff_model::Piece;
-use aff_outside::{Device, Folder, Telling};
+use aff_outside::{Device, Examiner, Folder, Telling};
 use aff_script::Answer;
 use std::sync::Arc;
 
-/// What was acquired: the pieces in the order of their publication, what each session was answered, in the script's order, and
-/// the hashes of the finished volume.
+/// What was acquired: the pieces in the order of their publication, what each session was answered, in the script's order, what
+/// each examiner found, in their order, and the hashes of the finished volume.
 #[derive(Drop)]
 pub struct Acquired<R: Telling> {
     pub pieces: Vec<Arc<Piece<R>>>,
     pub sessions: Vec<Vec<Answer>>,
+    pub findings: Vec<Vec<u8>>,
     pub hashes: Hashes,
 }
 
-/// How a run ended: with the whole volume and all answers; because the folder failed, or a peek of it; because a session was
-/// given other bytes than were recorded of a chunk; or for want of memory.
+/// How a run ended: with the whole volume, all answers and all findings; because the folder failed, or a peek of it; because a
+/// session or an examiner was given other bytes than were recorded of a chunk; or for want of memory.
 #[derive(Drop)]
 pub enum RunEnd<R: Telling> {
     Done(Acquired<R>),
@@ -29,11 +30,12 @@ pub enum RunEnd<R: Telling> {
     Memory,
 }
 
-/// What a run hands back: its end, the devices in their order, the folder, and the peeks that it took from it.
+/// What a run hands back: its end, the devices and the examiners in their order, the folder, and the peeks that it took from it.
 #[derive(Drop)]
 pub struct Run<F: Folder> {
     pub end: RunEnd<F::Receipt>,
     pub devices: Vec<Box<dyn Device>>,
+    pub examiners: Vec<Box<dyn Examiner>>,
     pub folder: F,
     pub peeks: Vec<F::Peek>,
 }

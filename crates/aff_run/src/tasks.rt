@@ -5,8 +5,9 @@ ghost use Rattle.aff_run.specs.Tasks.{CanRun, CanWork, HasRun, HasWorked};
 
 use aff_book::Book;
 use aff_claim::Claims;
+use aff_examine::Examination;
 use aff_model::{Case, Named, Plan};
-use aff_outside::{Device, Folder, Gate};
+use aff_outside::{Device, Examiner, Folder, Gate};
 use aff_session::Session;
 use aff_snapshot::Running;
 use aff_worker::{WorkEnd, Worker, work};
@@ -23,12 +24,17 @@ pub(crate) enum Job {
     Taken,
 }
 
-/// What runs in a thread of its own: a worker, or a session with its number, which counts from 1.
+/// What runs in a thread of its own: a worker, a session with its number, which counts from 1, or an examiner that is shown what
+/// is published.
 #[derive(Drop)]
-pub(crate) enum Task<C: Case, F: Folder> {
-    Work(Job),
-    Look(u32, Session<C, F>),
+pub(crate) enum Task<J, S, X> {
+    Work(J),
+    Look(u32, S),
+    Watch(X),
 }
+
+/// A task of a run.
+pub(crate) type RunTask<C: Case, F: Folder> = Task<Job, Session<C, F>, Examination<C, F>>;
 
 // Lets a worker work to its end.
 fn run_job<C: Case, N: Named, F: Folder, G: Gate, W: Wait>(
@@ -62,17 +68,18 @@ fn run_task<C: Case, N: Named, F: Folder, G: Gate, W: Wait>(
     book: &Mutex<Book<C, N, F>>,
     running: &Running,
     gate: &G,
-    task: &mut Task<C, F>,
+    task: &mut RunTask<C, F>,
 )
     requires claims { claims.now.table ≡ table_of (run_of C.Case N.Named) }
     requires plan { plan.now ≡ N.run_plan }
     requires ranking { claims.now.ranking.priorities ≡ map (λ e. e.priority) plan.now.extents }
     requires task { CanRun (list_of (run_of C.Case N.Named)) claims.now N.run_workers C.content plan.now (λ d. (⟦<dyn Device as Device>⟧ d.vtable).device_content d.value) (λ d. (⟦<dyn Device as Device>⟧ d.vtable).device_block d.value) (λ d. (⟦<dyn Device as Device>⟧ d.vtable).device_size d.value) task.old }
-    ensures { HasRun (list_of (run_of C.Case N.Named)) plan.now F.Receipt.receipt_tells F.Receipt.told F.Peek.peek_faults (λ d. (⟦<dyn Device as Device>⟧ d.vtable).device_content d.value) (λ d. (⟦<dyn Device as Device>⟧ d.vtable).device_block d.value) (λ d. (⟦<dyn Device as Device>⟧ d.vtable).device_size d.value) (λ d. (⟦<dyn Device as Device>⟧ d.vtable).device_faults d.value) task.old task.new }
+    ensures { HasRun (list_of (run_of C.Case N.Named)) plan.now F.Receipt.receipt_tells F.Receipt.told F.Peek.peek_faults (λ d. (⟦<dyn Device as Device>⟧ d.vtable).device_content d.value) (λ d. (⟦<dyn Device as Device>⟧ d.vtable).device_block d.value) (λ d. (⟦<dyn Device as Device>⟧ d.vtable).device_size d.value) (λ d. (⟦<dyn Device as Device>⟧ d.vtable).device_faults d.value) (λ e. (⟦<dyn Examiner as Examiner>⟧ e.vtable).rule e.value) (λ e. (⟦<dyn Examiner as Examiner>⟧ e.vtable).text e.value) (λ e. (⟦<dyn Examiner as Examiner>⟧ e.vtable).state e.value) task.old task.new }
 {
     match task {
         Task::Work(job) => run_job(rt, claims, plan, book, running, gate, job),
         Task::Look(number, session) => session.live(claims, running, gate, *number),
+        Task::Watch(examination) => examination.live(running),
     }
 }
 
@@ -90,7 +97,7 @@ pub(crate) fn run_tasks<
     book: Book<C, N, F>,
     running: &Running,
     gate: &G,
-    tasks: &mut [Task<C, F>],
+    tasks: &mut [RunTask<C, F>],
 ) -> Book<C, N, F>
     requires claims { claims.now.table ≡ table_of (run_of C.Case N.Named) }
     requires plan { plan.now ≡ N.run_plan }
@@ -98,7 +105,7 @@ pub(crate) fn run_tasks<
     requires some { 0 < length tasks.old }
     requires tasks { All (CanRun (list_of (run_of C.Case N.Named)) claims.now N.run_workers C.content plan.now (λ d. (⟦<dyn Device as Device>⟧ d.vtable).device_content d.value) (λ d. (⟦<dyn Device as Device>⟧ d.vtable).device_block d.value) (λ d. (⟦<dyn Device as Device>⟧ d.vtable).device_size d.value)) tasks.old }
     ensures count { length tasks.new ≡ length tasks.old }
-    ensures each { (k : ℕ) (d : _) → k < length tasks.old → HasRun (list_of (run_of C.Case N.Named)) plan.now F.Receipt.receipt_tells F.Receipt.told F.Peek.peek_faults (λ d. (⟦<dyn Device as Device>⟧ d.vtable).device_content d.value) (λ d. (⟦<dyn Device as Device>⟧ d.vtable).device_block d.value) (λ d. (⟦<dyn Device as Device>⟧ d.vtable).device_size d.value) (λ d. (⟦<dyn Device as Device>⟧ d.vtable).device_faults d.value) (slice_index_or tasks.old k d) (slice_index_or tasks.new k d) }
+    ensures each { (k : ℕ) (d : _) → k < length tasks.old → HasRun (list_of (run_of C.Case N.Named)) plan.now F.Receipt.receipt_tells F.Receipt.told F.Peek.peek_faults (λ d. (⟦<dyn Device as Device>⟧ d.vtable).device_content d.value) (λ d. (⟦<dyn Device as Device>⟧ d.vtable).device_block d.value) (λ d. (⟦<dyn Device as Device>⟧ d.vtable).device_size d.value) (λ d. (⟦<dyn Device as Device>⟧ d.vtable).device_faults d.value) (λ e. (⟦<dyn Examiner as Examiner>⟧ e.vtable).rule e.value) (λ e. (⟦<dyn Examiner as Examiner>⟧ e.vtable).text e.value) (λ e. (⟦<dyn Examiner as Examiner>⟧ e.vtable).state e.value) (slice_index_or tasks.old k d) (slice_index_or tasks.new k d) }
 {
     let shared = Mutex::new(book);
     let lock = &shared;
@@ -107,11 +114,11 @@ pub(crate) fn run_tasks<
         rt,
         tasks,
         threads,
-        &|_: usize, task: &mut Task<C, F>|
+        &|_: usize, task: &mut RunTask<C, F>|
             requires { (claims.now.table ≡ table_of (run_of C.Case N.Named)) × (plan.now ≡ N.run_plan)
                 × (claims.now.ranking.priorities ≡ map (λ e. e.priority) plan.now.extents)
                 × CanRun (list_of (run_of C.Case N.Named)) claims.now N.run_workers C.content plan.now (λ d. device_content (d.vtable, d.value)) (λ d. device_block (d.vtable, d.value)) (λ d. device_size (d.vtable, d.value)) task.old }
-            ensures { HasRun (list_of (run_of C.Case N.Named)) plan.entry.now F.Receipt.receipt_tells F.Receipt.told F.Peek.peek_faults (λ d. device_content (d.vtable, d.value)) (λ d. device_block (d.vtable, d.value)) (λ d. device_size (d.vtable, d.value)) (λ d. device_faults (d.vtable, d.value)) task.old task.new }
+            ensures { HasRun (list_of (run_of C.Case N.Named)) plan.entry.now F.Receipt.receipt_tells F.Receipt.told F.Peek.peek_faults (λ d. device_content (d.vtable, d.value)) (λ d. device_block (d.vtable, d.value)) (λ d. device_size (d.vtable, d.value)) (λ d. device_faults (d.vtable, d.value)) (λ e. rule (e.vtable, e.value)) (λ e. text (e.vtable, e.value)) (λ e. state (e.vtable, e.value)) task.old task.new }
         { run_task(rt, claims, plan, lock, running, gate, task) },
     );
     shared.into_inner()

@@ -1,8 +1,8 @@
 //! Whether a run may begin.
-ghost use Rattle.std.specs.Prelude.{[], Option, map, IfErr, IfOk};
+ghost use Rattle.std.specs.Prelude.{[], List, Option, map, IfErr, IfOk};
 ghost use Rattle.aff_model.specs.Content.{Content};
 ghost use Rattle.aff_command.specs.Devices.{shown};
-ghost use Rattle.aff_top.specs.Outcomes.{IsFaultOf, IsReady, facts, request};
+ghost use Rattle.aff_top.specs.Outcomes.{IsFaultOf, IsReady, ShownExaminer, facts, request};
 
 use crate::fault::Fault;
 use crate::text::read_work;
@@ -30,13 +30,13 @@ pub fn read_request<F: Folder, S: Source>(
     folder: &mut F,
     source: &mut S,
 ) -> Result<Request, Fault>
-    ensures ready { IfOk result (λ r. (case : Option Content) → IsReady (request (map (λ w. w.now) words.now) case F.tells)
-        (facts F.Folder S.Source (map (λ d. shown (device_content d) (device_block d) (device_size d) (device_faults d)) devices.now) devices.now folder.old source.old [])
-        (facts F.Folder S.Source (map (λ d. shown (device_content d) (device_block d) (device_size d) (device_faults d)) devices.now) devices.now folder.new source.new [])
+    ensures ready { IfOk result (λ r. (case : Option Content) (examiners : List ShownExaminer) → IsReady (request (map (λ w. w.now) words.now) case F.tells F.Receipt.told)
+        (facts F.Folder S.Source (map (λ d. shown (device_content d) (device_block d) (device_size d) (device_faults d)) devices.now) devices.now examiners folder.old source.old [])
+        (facts F.Folder S.Source (map (λ d. shown (device_content d) (device_block d) (device_size d) (device_faults d)) devices.now) devices.now examiners folder.new source.new [])
         r.uuid r.plan r.script) }
-    ensures refused { IfErr result (λ fault. (case : Option Content) → IsFaultOf fault (request (map (λ w. w.now) words.now) case F.tells)
-        (facts F.Folder S.Source (map (λ d. shown (device_content d) (device_block d) (device_size d) (device_faults d)) devices.now) devices.now folder.old source.old [])
-        (facts F.Folder S.Source (map (λ d. shown (device_content d) (device_block d) (device_size d) (device_faults d)) devices.now) devices.now folder.new source.new [])) }
+    ensures refused { IfErr result (λ fault. (case : Option Content) (examiners : List ShownExaminer) → IsFaultOf fault (request (map (λ w. w.now) words.now) case F.tells F.Receipt.told)
+        (facts F.Folder S.Source (map (λ d. shown (device_content d) (device_block d) (device_size d) (device_faults d)) devices.now) devices.now examiners folder.old source.old [])
+        (facts F.Folder S.Source (map (λ d. shown (device_content d) (device_block d) (device_size d) (device_faults d)) devices.now) devices.now examiners folder.new source.new [])) }
 {
     let Some((_, uuid)) = acquisition(words) else {
         return Err(Fault::Usage);

@@ -79,11 +79,11 @@ fn line(alloc: Global, fault: Fault) -> Result<String, AllocError>
 }
 
 // Writes the report, and answers the status.
-fn tell_report<K: Sink>(sink: &mut K, report: &str) -> u8
+fn tell_report<K: Sink>(sink: &mut K, report: &[u8]) -> u8
     ensures { ((result ≡ 0) × Appends (K.written sink.old) (K.written sink.new) report.now)
         ⊎ (((result ≡ 5) × IsWrittenInPart (output K.Sink sink.old) (output K.Sink sink.new) report.now) ⊎ ((result ≡ 7) × Keeps (K.written sink.old) (K.written sink.new))) }
 {
-    match sink.write(report.as_bytes()) {
+    match sink.write(report) {
         Ok(()) => 0,
         Err(SinkError::Failed) => 5,
         Err(SinkError::Memory) => 7,
@@ -123,11 +123,11 @@ fn tell_fault<K: Sink>(alloc: Global, sink: &mut K, fault: Fault) -> u8
 }
 
 /// Writes the report, or the line of the fault, and answers the status.
-pub fn tell<K: Sink>(alloc: Global, sink: &mut K, outcome: &Result<String, Fault>) -> u8
+pub fn tell<K: Sink>(alloc: Global, sink: &mut K, outcome: &Result<Vec<u8>, Fault>) -> u8
     ensures { IsTold outcome.now (output K.Sink sink.old) (output K.Sink sink.new) result }
 {
     match outcome {
-        Ok(report) => tell_report(sink, report.as_str()),
+        Ok(report) => tell_report(sink, report),
         Err(fault) => tell_fault(alloc, sink, *fault),
     }
 }

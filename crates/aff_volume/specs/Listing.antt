@@ -1,17 +1,10 @@
--- The segments of a folder, as they are listed.
-use Rattle.std.specs.Prelude.{◌≡◌, ⊤, ℕ, ◌⊎◌, List, None, IsTrue}
-use Rattle.std.specs.Ordering.{nat_cmp}
-use Rattle.std.specs.Cmp.Lexicographic.{slice_cmp}
-use Rattle.std.specs.FinMap.{is_sorted}
+-- What listed segments lack.
+use Rattle.std.specs.Prelude.{◌≡◌, ⊤, ℕ, ◌⊎◌, List, None}
 use Rattle.aff_spec.specs.Names.{map_name, idx_name}
 use Rattle.aff_bevvy.specs.Segments.{Lengths}
 use Rattle.aff_volume.specs.Hashed.{IsFirstUnhashed}
 use Rattle.aff_volume.specs.declared.error.VolumeError.{VolumeError}
 use Rattle.aff_volume.specs.declared.error.VolumeError.TheVariants.{NoMap, BlockHashes, Failed, Memory}
-
--- their names rise, and none stands twice
-abbrev pub AreSorted : List (List ℕ × ℕ) → Type 0
-AreSorted segments = IsTrue (is_sorted (slice_cmp nat_cmp) segments)
 
 -- an answer of no call of the folder
 abbrev pub IsOfList : VolumeError → Type 0

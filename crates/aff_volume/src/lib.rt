@@ -13,7 +13,6 @@ mod chunk;
 mod error;
 mod kinds;
 mod linear;
-mod listed;
 mod metadata;
 mod read;
 #[cfg(test)]

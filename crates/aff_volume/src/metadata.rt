@@ -11,7 +11,7 @@ ghost use Rattle.aff_volume.specs.Refusals.{IsVolumeRefused};
 
 use crate::VolumeError;
 use crate::error::{of_folder, of_info, of_turtle};
-use crate::listed::length_of;
+use aff_bevvy::length_of;
 use aff_info::{InfoRead, of_triples};
 use aff_outside::{Folder, FolderError, Segment};
 use aff_turtle::read;

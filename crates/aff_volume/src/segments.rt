@@ -1,14 +1,14 @@
 //! What a volume's segments are by their lengths.
 ghost use Rattle.std.specs.Prelude.{◌≡◌, ◌↔◌, ℕ, ◌*◌, ◌<◌, ◌≤◌, ◌++◌, Some, IfOk, IfErr, OnOk, IsTrue};
 ghost use Rattle.aff_model.specs.Plan.{chunk_count};
-ghost use Rattle.aff_bevvy.specs.Segments.{listed_length};
+ghost use Rattle.aff_bevvy.specs.Segments.{AreSorted, listed_length};
 ghost use Rattle.aff_spec.specs.BlockHashes.{chunks_in as chunks_of_bevvy};
 ghost use Rattle.aff_spec.specs.Names.{eight_digits, idx_name, map_name, segment_in};
 ghost use Rattle.aff_volume.specs.Hashed.{AreHashed, IsHashed};
-ghost use Rattle.aff_volume.specs.Listing.{AreSorted, IsOfList, LacksHashes, LacksTables};
+ghost use Rattle.aff_volume.specs.Listing.{IsOfList, LacksHashes, LacksTables};
 
 use crate::VolumeError;
-use crate::listed::length_of;
+use aff_bevvy::length_of;
 use aff_model::{BEVVY, CHUNK, Memory};
 use aff_names::{Urn, named_segment, segment_name};
 use aff_outside::Segment;

@@ -2,9 +2,10 @@
 //! segment of the folder with its length in bytes. Byte `i` of the card is `(i / 512 + i % 512) % 256`.
 #![tactic(auto)]
 
+use aff_examine::Tally;
 use aff_memory::{FixedDevice, MemorySource};
 use aff_model::Untold;
-use aff_outside::{Device, FileFolder, Folder, OpenGate, OutputSink};
+use aff_outside::{Device, Examiner, FileFolder, Folder, OpenGate, OutputSink};
 use aff_top::run_words;
 use std::alloc::{AllocError, Global};
 use std::process::ExitCode;
@@ -42,13 +43,15 @@ fn acquire<W: Alloc<A = Global> + Threads + Wait + Sync>(
     let device = FixedDevice::new(card(alloc)?, vec![in alloc; 1u64, 2, 70, 127]?);
     let mut devices: Vec<Box<dyn Device>> = Vec::new(alloc);
     devices.push(Box::new(alloc, device)?)?;
+    let mut examiners: Vec<Box<dyn Examiner>> = Vec::new(alloc);
+    examiners.push(Box::new(alloc, Tally::new(alloc))?)?;
     let folder = FileFolder::at(rt, FOLDER).map_err(|_| AllocError)?;
     let mut source = MemorySource::new(Vec::from_slice(alloc, PLAN)?, Vec::new(alloc));
     let end = run_words::<Untold, _, _, _, _, _>(
         threads,
         &WORDS,
         devices,
-        Vec::new(alloc),
+        examiners,
         folder,
         &mut source,
         &mut OutputSink::new(rt),

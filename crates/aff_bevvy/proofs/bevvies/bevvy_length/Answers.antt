@@ -9,4 +9,4 @@ returns-clause-bevvy c =
     is_bevvy (listed_length c.args.segments.now) c.args.stream.now c.args.chunks c.args.bevvy c.in-Ok-Some.len
     (sym c.in-Ok-Some.ensures.length ∙ c.in-Ok-Some.field-0-is)
     (subst (λ o. IfSome o (λ len. len < 2 ^ 64)) c.in-Ok-Some.field-0-is c.in-Ok-Some.ensures.small)
-    (sym c.in-Ok-Some-length_of.ensures.length ∙ c.in-Ok-Some-length_of.field-0-is ∙ ap Some (c.if-index-chunks_in.false ∙ ap (λ n. 12 * n) c.chunks_in.ensures))
+    (sym c.in-Ok-Some-numbered_length.ensures.length ∙ c.in-Ok-Some-numbered_length.field-0-is ∙ ap Some (c.if-index-chunks_in.false ∙ ap (λ n. 12 * n) c.chunks_in.ensures))

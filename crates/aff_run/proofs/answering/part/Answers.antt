@@ -45,3 +45,8 @@ returns-clause-peeks g c =
     let e = YieldsList-end (YieldsList-from_vec {s = c.into_iter-session-iterator.result} c.args.sessions.items (cc) (cc)) c.loop-session.yielded c.loop-session.session-iterator c.loop-session.yielded_by c.next.result c.next.new.self c.in-None.is c.next.ensures.steps in
     let all = sym (map-id c.loop-session.yielded) ∙ e.0 in
     c.loop-session.invariant.peeks ∙ ap (λ (l : List (Sitting g.row.F-Receipt.Denot g.row.F-Peek.Denot)). c.args.peeks.now.items ++ map (λ s. s.peek) l) all
+
+pub returns-clause-room : goal.returns-clause-room
+returns-clause-room g c =
+    let i = c.loop-session.invariant in
+    (omega (arith, c.in-None.ensures.steps, i.peeks_len, i.left), i.peeks_room)

@@ -12,7 +12,7 @@ pub entries_of-requires : goal.entries_of-requires
 entries_of-requires g c =
     let case = g.C.Case.content in
     let tells = g.F.Folder.tells in
-    let ask = asked c.args.volume.now c.args.plan.now g.N.Named.run_workers in
+    let ask = asked c.args.volume.now c.args.plan.now g.N.Named.run_workers 0 in
     let mid = g.F.Folder.held c.args.folder.now in
     let w = c.args.stream.now in
     let history = map published c.args.pieces.now in
@@ -22,7 +22,7 @@ pub returns-in-Err-clause-cut_off : goal.returns-in-Err-clause-cut_off
 returns-in-Err-clause-cut_off g c =
     let case = g.C.Case.content in
     let tells = g.F.Folder.tells in
-    let ask = asked c.args.volume.now c.args.plan.now g.N.Named.run_workers in
+    let ask = asked c.args.volume.now c.args.plan.now g.N.Named.run_workers 0 in
     let mid = g.F.Folder.held c.args.folder.now in
     let w = c.args.stream.now in
     let history = map published c.args.pieces.now in
@@ -32,7 +32,7 @@ pub finish-requires-clause-few : goal.finish-requires-clause-few
 finish-requires-clause-few g c κs within =
     let case = g.C.Case.content in
     let tells = g.F.Folder.tells in
-    let ask = asked c.args.volume.now c.args.plan.now g.N.Named.run_workers in
+    let ask = asked c.args.volume.now c.args.plan.now g.N.Named.run_workers 0 in
     let mid = g.F.Folder.held c.args.folder.now in
     let w = c.args.stream.now in
     let history = map published c.args.pieces.now in
@@ -42,7 +42,7 @@ pub finish-requires-clause-walkable : goal.finish-requires-clause-walkable
 finish-requires-clause-walkable g c κs within =
     let case = g.C.Case.content in
     let tells = g.F.Folder.tells in
-    let ask = asked c.args.volume.now c.args.plan.now g.N.Named.run_workers in
+    let ask = asked c.args.volume.now c.args.plan.now g.N.Named.run_workers 0 in
     let mid = g.F.Folder.held c.args.folder.now in
     let w = c.args.stream.now in
     let history = map published c.args.pieces.now in
@@ -56,7 +56,7 @@ pub finish-requires-clause-there : goal.finish-requires-clause-there
 finish-requires-clause-there g c κs within =
     let case = g.C.Case.content in
     let tells = g.F.Folder.tells in
-    let ask = asked c.args.volume.now c.args.plan.now g.N.Named.run_workers in
+    let ask = asked c.args.volume.now c.args.plan.now g.N.Named.run_workers 0 in
     let mid = g.F.Folder.held c.args.folder.now in
     let w = c.args.stream.now in
     let history = map published c.args.pieces.now in
@@ -70,7 +70,7 @@ pub returns-in-Ok-finish-clause-whole : goal.returns-in-Ok-finish-clause-whole
 returns-in-Ok-finish-clause-whole g c =
     let case = g.C.Case.content in
     let tells = g.F.Folder.tells in
-    let ask = asked c.args.volume.now c.args.plan.now g.N.Named.run_workers in
+    let ask = asked c.args.volume.now c.args.plan.now g.N.Named.run_workers 0 in
     let mid = g.F.Folder.held c.args.folder.now in
     let w = c.args.stream.now in
     let history = map published c.args.pieces.now in
@@ -86,7 +86,7 @@ pub returns-clause-cut_off : goal.returns-clause-cut_off
 returns-clause-cut_off g c =
     let case = g.C.Case.content in
     let tells = g.F.Folder.tells in
-    let ask = asked c.args.volume.now c.args.plan.now g.N.Named.run_workers in
+    let ask = asked c.args.volume.now c.args.plan.now g.N.Named.run_workers 0 in
     let mid = g.F.Folder.held c.args.folder.now in
     let w = c.args.stream.now in
     let history = map published c.args.pieces.now in

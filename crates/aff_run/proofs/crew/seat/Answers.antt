@@ -3,7 +3,7 @@ use Rattle.std.specs.Prelude.{All}
 use Rattle.std.proofs.lemmas.Iterator.Adapters.{YieldsList-from_vec}
 use Rattle.std.proofs.lemmas.Iterator.Consumers.{YieldsList-end}
 use Rattle.std.proofs.lemmas.List.{length_push, map-id}
-use Rattle.aff_run.proofs.Crews.{seated, seated_can, seated_devices}
+use Rattle.aff_run.proofs.Crews.{seated, seated_can, seated_devices, seated_examinations}
 use Rattle.aff_run.proofs.crew.seat.Goals as goal
 
 pub loop-session-preserved : goal.loop-session-preserved
@@ -24,6 +24,7 @@ loop-session-preserved g c =
       λ list claims workers plan can fresh.
           seated_can (λ d. (goal.Device-dyn g (d.vtable, d.value)).device_content d.value) (λ d. (goal.Device-dyn g (d.vtable, d.value)).device_block d.value) (λ d. (goal.Device-dyn g (d.vtable, d.value)).device_size d.value)
           list claims workers g.C.Case.content plan tasks news n s items (i.6 list claims workers plan can) fresh,
+      seated_examinations tasks news n s _ items i.7,
     )
 
 pub returns-clause-tasks : goal.returns-clause-tasks

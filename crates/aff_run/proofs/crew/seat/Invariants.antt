@@ -4,7 +4,7 @@ use Rattle.aff_model.specs.Plan.{Planned}
 use Rattle.aff_claim.specs.Values.{Claiming}
 use Rattle.aff_snapshot.specs.Lists.{ListName}
 use Rattle.aff_run.specs.Sessions.{IsFresh}
-use Rattle.aff_run.specs.Tasks.{CanRun, devices_of, sessions_of}
+use Rattle.aff_run.specs.Tasks.{CanRun, devices_of, examinations_of, sessions_of}
 use Rattle.aff_run.proofs.crew.seat.Given as goal
 
 abbrev pub invariant-loop-session : goal.invariant-loop-session
@@ -16,3 +16,4 @@ invariant-loop-session g l =
     → All (CanRun list claims workers g.C.Case.content plan (λ d. (goal.Device-dyn g (d.vtable, d.value)).device_content d.value) (λ d. (goal.Device-dyn g (d.vtable, d.value)).device_block d.value) (λ d. (goal.Device-dyn g (d.vtable, d.value)).device_size d.value)) l.initial.tasks.items
     → All (λ s. IsFresh plan claims list s) (sessions_of l.tasks.items)
     → All (CanRun list claims workers g.C.Case.content plan (λ d. (goal.Device-dyn g (d.vtable, d.value)).device_content d.value) (λ d. (goal.Device-dyn g (d.vtable, d.value)).device_block d.value) (λ d. (goal.Device-dyn g (d.vtable, d.value)).device_size d.value)) l.tasks.items)
+    × (examinations_of l.tasks.items ≡ examinations_of l.initial.tasks.items)

@@ -1,12 +1,35 @@
-use Rattle.std.proofs.Common.{◌≡◌, ◌+◌, ◌≤◌, ◌<◌, ◌∷◌, [], ◌++◌, length, sym, ap, subst, ◌∙◌, arith}
+use Rattle.std.proofs.Common.{◌≡◌, ◌+◌, ◌≤◌, ◌<◌, ◌∷◌, [], ◌++◌, length, refl, sym, ap, subst, ◌∙◌, arith}
 use Rattle.std.specs.Prelude.{All}
-use Rattle.std.proofs.lemmas.List.{length_push}
+use Rattle.std.proofs.lemmas.Iterator.Adapters.{YieldsList-from_vec}
+use Rattle.std.proofs.lemmas.Iterator.Consumers.{YieldsList-end}
+use Rattle.std.proofs.lemmas.List.{length_push, map-id}
 use Rattle.std.proofs.lemmas.List.Elements.{All-head, All-tail}
 use Rattle.aff_claim.specs.Values.{Claiming}
 use Rattle.aff_worker.specs.declared.worker.Worker.{Worker}
 use Rattle.aff_run.specs.declared.crew.Kit.{Kit}
-use Rattle.aff_run.proofs.Crews.{staffed, staffed_can, staffed_sessions}
+use Rattle.aff_run.specs.Tasks.{devices_of, examinations_of, sessions_of}
+use Rattle.aff_run.proofs.Crews.{staffed, staffed_can, staffed_examinations, staffed_sessions}
 use Rattle.aff_run.proofs.crew.staff.Goals as goal
+
+pub loop-device-init : goal.loop-device-init
+loop-device-init g c =
+    let none = ap length c.requires.none in
+    let devices = c.into_iter-device-iterator.ensures.into_iter_gives.1 in (
+      omega (arith, none, c.args.room.ok.0),
+      omega (arith, devices, c.requires.room),
+      ap devices_of c.requires.none,
+      omega (arith, devices, c.into_iter-kits.ensures.len, c.requires.count),
+      λ claims workers all. all,
+      λ list claims workers plan all fit k d below. absurd (omega (arith, below, none)),
+      ap sessions_of c.requires.none,
+      refl,
+      ap examinations_of c.requires.none,
+    )
+
+pub returns-clause-devices : goal.returns-clause-devices
+returns-clause-devices g c =
+    let e = YieldsList-end (YieldsList-from_vec {s = c.into_iter-device-iterator.result} c.args.devices.items (cc) (cc)) c.loop-device.yielded c.loop-device.device-iterator c.loop-device.yielded_by c.next.result c.next.new.self c.in-None.is c.next.ensures.steps in
+    c.loop-device.invariant.2 ∙ (sym (map-id c.loop-device.yielded) ∙ e.0)
 
 pub loop-device-preserved : goal.loop-device-preserved
 loop-device-preserved g c =
@@ -31,6 +54,7 @@ loop-device-preserved g c =
           list claims workers g.C.Case.content plan tasks news w c.push_reserved.ensures.items one.0 one.1 (i.5 list claims workers plan all) fit,
       staffed_sessions tasks news w c.push_reserved.ensures.items i.6,
       c.push_reserved.ensures.capacity ∙ i.7,
+      staffed_examinations tasks news w c.push_reserved.ensures.items i.8,
     )
 
 pub returns-clause-tasks : goal.returns-clause-tasks

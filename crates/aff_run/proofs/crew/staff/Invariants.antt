@@ -4,7 +4,7 @@ use Rattle.aff_model.specs.Plan.{Planned}
 use Rattle.aff_claim.specs.Values.{Claiming}
 use Rattle.aff_snapshot.specs.Lists.{ListName}
 use Rattle.aff_run.specs.Devices.{Fits}
-use Rattle.aff_run.specs.Tasks.{CanRun, devices_of, sessions_of}
+use Rattle.aff_run.specs.Tasks.{CanRun, devices_of, examinations_of, sessions_of}
 use Rattle.aff_run.proofs.crew.staff.Given as goal
 
 abbrev pub invariant-loop-device : goal.invariant-loop-device
@@ -16,4 +16,4 @@ invariant-loop-device g l =
     × ((list : ListName) (claims : Claiming) (workers : ℕ) (plan : Planned) → All (λ k. (k.pass.claims ≡ claims) × (k.pass.view.number < workers)) l.initial.kits.rest.items
     → All (λ d. Fits g.C.Case.content plan (λ d. (goal.Device-dyn g (d.vtable, d.value)).device_content d.value) (λ d. (goal.Device-dyn g (d.vtable, d.value)).device_block d.value) (λ d. (goal.Device-dyn g (d.vtable, d.value)).device_size d.value) d) (devices_of l.tasks.items)
     → All (CanRun list claims workers g.C.Case.content plan (λ d. (goal.Device-dyn g (d.vtable, d.value)).device_content d.value) (λ d. (goal.Device-dyn g (d.vtable, d.value)).device_block d.value) (λ d. (goal.Device-dyn g (d.vtable, d.value)).device_size d.value)) l.tasks.items)
-    × (sessions_of l.tasks.items ≡ []) × (vec_capacity l.tasks ≡ vec_capacity l.initial.tasks)
+    × (sessions_of l.tasks.items ≡ []) × (vec_capacity l.tasks ≡ vec_capacity l.initial.tasks) × (examinations_of l.tasks.items ≡ [])

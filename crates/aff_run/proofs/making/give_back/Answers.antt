@@ -8,3 +8,8 @@ loop-session-preserved g c =
     let longer = length_push c.loop-session.yielded c.in-Some.session in
     let p = c.push_reserved.ensures in
     (omega (arith, longer, p.len, i.0), p.capacity ∙ i.1, omega (arith, longer, c.in-Some.ensures.steps.1, i.2))
+
+pub returns : goal.returns
+returns g c =
+    let i = c.loop-session.invariant in
+    record { room = (omega (arith, c.in-None.ensures.steps, i.0, i.2), i.1) }

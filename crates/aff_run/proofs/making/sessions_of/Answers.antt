@@ -16,7 +16,7 @@ loop-wanted-preserved g c =
     let o = c.session_of.ensures in
     let k = c.in-Ok.ensures in
     let left = All-pop (λ (v : Beginning g.row.F-Receipt.Denot). v.list.plan ≡ c.args.plan.now) c.loop-wanted.viewers.items c.pop-viewer.new.self.items c.pop-viewer.result c.pop-viewer.ensures.items i.plans in
-    let same = λ (list : ListName) (all : All (λ (v : Beginning g.row.F-Receipt.Denot). v.list ≡ list) c.args.viewers.items).
+    let same = λ (list : ListName) (all : All (λ (v : Beginning g.row.F-Receipt.Denot). v.list ≡ list) c.args.viewers.now.items).
     All-pop (λ (v : Beginning g.row.F-Receipt.Denot). v.list ≡ list) c.loop-wanted.viewers.items c.pop-viewer.new.self.items c.pop-viewer.result c.pop-viewer.ensures.items (i.lists list all) in
     record {
       table = o.seat.0 ∙ i.table;

@@ -35,5 +35,6 @@ returns-clause-each g c = λ k d below.
     let changes = (c.for_each_mut.ensures k d below).1 in
     subst₂
     (HasRun (list_of (run_of g.C.Case g.N.Named)) c.args.plan.now g.F.Receipt.Telling.receipt_tells g.F.Receipt.Telling.told g.F.Peek.Peek.peek_faults (λ d. (goal.Device-dyn g (d.vtable, d.value)).device_content d.value)
-    (λ d. (goal.Device-dyn g (d.vtable, d.value)).device_block d.value) (λ d. (goal.Device-dyn g (d.vtable, d.value)).device_size d.value) (λ d. (goal.Device-dyn g (d.vtable, d.value)).device_faults d.value))
+    (λ d. (goal.Device-dyn g (d.vtable, d.value)).device_block d.value) (λ d. (goal.Device-dyn g (d.vtable, d.value)).device_size d.value) (λ d. (goal.Device-dyn g (d.vtable, d.value)).device_faults d.value)
+    (λ e. (goal.Examiner-dyn g (e.vtable, e.value)).rule e.value) (λ e. (goal.Examiner-dyn g (e.vtable, e.value)).text e.value) (λ e. (goal.Examiner-dyn g (e.vtable, e.value)).state e.value))
     changes.argument_is changes.left changes.call

@@ -9,22 +9,22 @@ use Rattle.aff_volume.proofs.metadata.read_text.Goals as goal
 
 pub returns-in_default-clause-refused : goal.returns-in_default-clause-refused
 returns-in_default-clause-refused g c = λ t.
-    let is = in_folder (g.F.Folder.held c.args.folder.now) c.args.segments.now (c.requires t) (λ len. c.length_of.result ≡ len information_name) c.length_of.ensures in
+    let is = in_folder (g.F.Folder.held c.args.folder.now) c.args.segments.now (c.requires t) (λ len. c.length_of.result ≡ len information_name) c.length_of.ensures.length in
     no_length _ (sym is ∙ c.in_default.is)
 
 pub read_whole-requires-clause-there : goal.read_whole-requires-clause-there
 read_whole-requires-clause-there g c κs within = λ t.
-    let is = in_folder (g.F.Folder.held c.args.folder.now) c.args.segments.now (c.requires t) (λ len. c.length_of.result ≡ len information_name) c.length_of.ensures in
+    let is = in_folder (g.F.Folder.held c.args.folder.now) c.args.segments.now (c.requires t) (λ len. c.length_of.result ≡ len information_name) c.length_of.ensures.length in
     some_length _ c.in-Some.len (sym is ∙ c.in-Some.is)
 
 pub read_whole-requires-clause-length : goal.read_whole-requires-clause-length
 read_whole-requires-clause-length g c κs within = λ t.
-    let is = in_folder (g.F.Folder.held c.args.folder.now) c.args.segments.now (c.requires t) (λ len. c.length_of.result ≡ len information_name) c.length_of.ensures in
+    let is = in_folder (g.F.Folder.held c.args.folder.now) c.args.segments.now (c.requires t) (λ len. c.length_of.result ≡ len information_name) c.length_of.ensures.length in
     room_known (g.F.Folder.held c.args.folder.now) information_name c.in-Some.len (sym is ∙ c.in-Some.is)
 
 pub returns-in-Ok-clause-text : goal.returns-in-Ok-clause-text
 returns-in-Ok-clause-text g c = λ t.
-    let is = in_folder (g.F.Folder.held c.args.folder.now) c.args.segments.now (c.requires t) (λ len. c.length_of.result ≡ len information_name) c.length_of.ensures in
+    let is = in_folder (g.F.Folder.held c.args.folder.now) c.args.segments.now (c.requires t) (λ len. c.length_of.result ≡ len information_name) c.length_of.ensures.length in
     get_known _ c.in-Some.len (sym is ∙ c.in-Some.is) ∙ ap Some (sym (c.in-Ok.ensures.bytes t))
 
 pub returns-in-Err-clause-refused : goal.returns-in-Err-clause-refused

@@ -1,7 +1,7 @@
 use Rattle.std.proofs.Common.{ℕ, ◌<◌}
 use Rattle.aff_bevvy.specs.Segments.{listed_length}
 use Rattle.aff_volume.specs.Hashed.{IsHashed}
-use Rattle.aff_volume.specs.Listing.{AreSorted}
+use Rattle.aff_bevvy.specs.Segments.{AreSorted}
 use Rattle.aff_volume.proofs.segments.check_hashes.Given as goal
 
 abbrev pub invariant-loop-bevvy : goal.invariant-loop-bevvy
