@@ -6,7 +6,6 @@ mod Marks
 mod Parts
 mod Puts
 mod Raising
-mod Samples
 mod Shown
 mod Steps
 mod Stored

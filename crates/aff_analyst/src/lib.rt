@@ -20,8 +20,6 @@ mod reads;
 mod run_list;
 mod sectors;
 mod seen;
-#[cfg(test)]
-mod tests;
 
 pub use analyst::Analyst;
 pub use error::ReadError;

@@ -15,8 +15,6 @@ mod laws;
 mod reader;
 mod seeing;
 mod tally;
-#[cfg(test)]
-mod tests;
 
 pub use error::FollowError;
 pub use examination::Examination;

@@ -9,11 +9,7 @@ mod findings;
 mod laws;
 mod refusals;
 mod run;
-#[cfg(test)]
-mod sample;
 mod tell;
-#[cfg(test)]
-mod tests;
 
 pub use laws::{a_sound_volume_is_found_sound, a_whole_volume_is_taken};
 pub use run::run_offline;

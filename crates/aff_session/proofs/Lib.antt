@@ -5,4 +5,3 @@ mod Lining
 mod Looks
 mod Requests
 mod Rows
-mod Samples

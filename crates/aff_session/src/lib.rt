@@ -12,8 +12,6 @@ mod lines;
 mod looker;
 mod parts;
 mod session;
-#[cfg(test)]
-mod tests;
 
 pub use fault::SessionFault;
 pub use laws::answers_are_by_the_history;

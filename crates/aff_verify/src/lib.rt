@@ -6,10 +6,6 @@
 
 mod digests;
 mod finding;
-#[cfg(test)]
-mod sample;
-#[cfg(test)]
-mod tests;
 mod verdict;
 
 pub use finding::{Finding, Verdict};

@@ -15,13 +15,9 @@ mod kinds;
 mod linear;
 mod metadata;
 mod read;
-#[cfg(test)]
-mod sample;
 mod segments;
 mod symbols;
 mod tables;
-#[cfg(test)]
-mod tests;
 mod volume;
 
 pub use aff_finish::{Hashes, finish};

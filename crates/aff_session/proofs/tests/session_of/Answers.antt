@@ -1,6 +1,0 @@
-use Rattle.std.proofs.Common.{sym, subst}
-use Rattle.aff_script.specs.Script.{IsSession}
-use Rattle.aff_session.proofs.tests.session_of.Goals as goal
-
-pub new-requires-2-clause-requests : goal.new-requires-2-clause-requests
-new-requires-2-clause-requests c κs = subst (λ n. IsSession n c.args.requests.now) (sym c.requires.size) c.requires.requests
