@@ -6,7 +6,7 @@ use std::io;
 use std::io::ErrorKind;
 use std::marker::Model;
 use std::sync::Arc;
-use std::sync::atomic::{AtomicI64, AtomicU64, Ordering};
+use std::sync::atomic::{AtomicI32, AtomicU64, Ordering};
 
 /// How often a device's readings failed, and which one did last: its one reader writes it.
 #[derive(Drop)]
@@ -14,7 +14,7 @@ pub struct Readings {
     failed: AtomicU64,
     at: AtomicU64,
     /// The system's number of the error; 0 where it has none, as at the end of a file that was cut short.
-    code: AtomicI64,
+    code: AtomicI32,
 }
 
 /// The last reading that failed: how many did, its offset in bytes, and why.
@@ -30,21 +30,21 @@ impl Readings {
         Readings {
             failed: AtomicU64::new(0),
             at: AtomicU64::new(0),
-            code: AtomicI64::new(0),
+            code: AtomicI32::new(0),
         }
     }
 
     fn add(&self, at: u64, error: Option<io::Error>) {
         let code = error.and_then(|error| error.raw_os_error()).unwrap_or(0);
         self.at.store(at, Ordering::SeqCst);
-        self.code.store(code as i64, Ordering::SeqCst);
+        self.code.store(code, Ordering::SeqCst);
         self.failed.fetch_add(1, Ordering::SeqCst);
     }
 
     /// The last one that failed, if any did.
     pub fn last_failed(&self) -> Option<FailedReading> {
         let count = self.failed.load(Ordering::SeqCst);
-        let error = match self.code.load(Ordering::SeqCst) as i32 {
+        let error = match self.code.load(Ordering::SeqCst) {
             0 => io::Error::from(ErrorKind::UnexpectedEof),
             code => io::Error::from_raw_os_error(code),
         };
@@ -80,13 +80,15 @@ impl KeptDevice {
 }
 
 impl Device for KeptDevice {
-    ghost device_content = { λ d. FileDevice.device_content d };
+    ghost use Rattle.std.specs.Prelude.{None};
 
-    ghost device_block = { λ d. FileDevice.device_block d };
+    ghost device_content = { λ _. None };
 
-    ghost device_size = { λ d. FileDevice.device_size d };
+    ghost device_block = { λ d. d.block };
 
-    ghost device_faults = { λ d. FileDevice.device_faults d };
+    ghost device_size = { λ d. d.size };
+
+    ghost device_faults = { λ d. d.faults };
 
     fn block(&self) -> u32 {
         self.device.block()

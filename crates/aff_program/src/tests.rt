@@ -48,6 +48,7 @@ fn a_reading_that_failed_is_told(rt: HostRuntime) -> Result<(), Fail> {
     let readings = Arc::new(alloc, Readings::new())?;
     let device = FileDevice::open(&rt, path.as_str(), 512);
     let mut device = KeptDevice::new(device, Arc::try_clone(&readings)?);
+    assert!(rt; device.size() == 1024);
     let file = OpenOptions::new().write(true).open(&rt, path.as_str())?;
     file.set_len(512)?;
     let mut sector = vec![in alloc; 0; 512]?;

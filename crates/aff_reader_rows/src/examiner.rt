@@ -164,7 +164,13 @@ fn examined(
     rt: &impl Wait,
     alloc: Global,
     plan: &Plan,
-) -> Result<(Publisher<Untold, SilentReceipt>, Follower<Untold, SilentFolder>), Fail>
+) -> Result<
+    (
+        Publisher<Untold, SilentReceipt>,
+        Follower<Untold, SilentFolder>,
+    ),
+    Fail,
+>
     ensures plan { IfOk result (λ r. r.0.list.plan ≡ plan.now) }
     ensures none { IfOk result (λ r. r.0.pieces ≡ []) }
     ensures list { IfOk result (λ r. IfSome r.1.viewer (λ v. v.list ≡ r.0.list)) }

@@ -74,7 +74,13 @@ pub fn looked_at(
     rt: &impl Wait,
     alloc: Global,
     plan: &Plan,
-) -> Result<(Publisher<Untold, SilentReceipt>, Option<Viewer<Untold, SilentReceipt>>), Fail>
+) -> Result<
+    (
+        Publisher<Untold, SilentReceipt>,
+        Option<Viewer<Untold, SilentReceipt>>,
+    ),
+    Fail,
+>
     ensures plan { IfOk result (λ r. r.0.list.plan ≡ plan.now) }
     ensures none { IfOk result (λ r. r.0.pieces ≡ []) }
     ensures list { IfOk result (λ r. IfSome r.1 (λ v. v.list ≡ r.0.list)) }

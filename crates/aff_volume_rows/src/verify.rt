@@ -1,7 +1,5 @@
 //! Worked verdicts on one small volume.
-use crate::sample::{
-    Change, ENTRIES, IDX, RESPELLED, pair, sample, stream, sums_of_halves,
-};
+use crate::sample::{Change, ENTRIES, IDX, RESPELLED, pair, sample, stream, sums_of_halves};
 use aff_fields::write_entries;
 use aff_verify::{Finding, Verdict, verify};
 use std::alloc::{Alloc, Global};
